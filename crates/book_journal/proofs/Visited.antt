@@ -9,7 +9,8 @@ use Rattle.book_log.specs.Lines.{place_of}
 use Rattle.book_log.specs.declared.line.LinePlace.{LinePlace}
 use Rattle.tenant_core.specs.State.{State}
 use Rattle.tenant_core.specs.declared.journal.Record.{Record}
-use Rattle.book_journal.specs.Written.{new_records, place_for, place_in}
+use Rattle.book_journal.specs.Noted.{unnoted}
+use Rattle.book_journal.specs.Written.{new_records, place_in}
 
 -- what holds of all items holds of the one at a place
 pub at_place : {X : Type 0} (P : X → Type 0) (xs : List X) (i : ℕ) (x : X) → All P xs → slice_get xs i ≡ Some x → P x
@@ -34,11 +35,16 @@ next_item P xs i x within is here so_far = AllWithin-more P xs 0 i so_far (at_re
 pub all_items : {X : Type 0} (P : X → Type 0) (xs : List X) (i : ℕ) → length xs ≤ i → AllWithin P xs 0 i → All P xs
 all_items P xs i past so_far = All-from_all_within P xs (AllWithin-upto P xs 0 i (length xs) past so_far)
 
--- the records from the first one without a line on, by parts that were read one by one
-pub all_new : (P : Record → Type 0) (places : List LinePlace) (s : State) (next : LinePlace) (from : ℕ) (records : List Record) → next ≡ place_of s
-    → from ≡ (place_in (slice_index_or places next.tenant next) next.period).number → records ≡ s.records
-    → All P (drop from records) → All P (new_records places s)
-all_new P places s next from records next_is from_is same all =
-    let first = ap (λ (n : ℕ). drop n records) from_is in
-    let place = ap (λ (p : LinePlace). drop (place_in (slice_index_or places p.tenant p) p.period).number records) next_is in
-    subst (λ (rs : List Record). All P rs) (first ∙ place ∙ ap (drop (place_for places s).number) same) all
+-- the records of a state that have no line, by parts that were read one by one
+pub all_unnoted : (P : Record → Type 0) (p at : LinePlace) (s : State) (period : ℕ) (records : List Record) → at ≡ place_in p period
+    → period ≡ s.opening.period → records ≡ s.records → All P (drop at.number records) → All P (unnoted p s)
+all_unnoted P p at s period records at_is period_is same all =
+    let place = at_is ∙ ap (λ (n : ℕ). place_in p n) period_is in
+    subst (λ (rs : List Record). All P rs)
+    (ap (λ (q : LinePlace). drop q.number records) place ∙ ap (drop (place_in p s.opening.period).number) same) all
+
+-- by the places of all tenants
+pub all_new : (P : Record → Type 0) (places : List LinePlace) (s : State) (next p : LinePlace) → next ≡ place_of s
+    → p ≡ slice_index_or places next.tenant next → All P (unnoted p s) → All P (new_records places s)
+all_new P places s next p next_is p_is all =
+    subst (λ (q : LinePlace). All P (unnoted q s)) (p_is ∙ ap (λ (q : LinePlace). slice_index_or places q.tenant q) next_is) all

@@ -1,2 +1,4 @@
 pub mod Loggable
+pub mod Noted
+pub mod Writer
 pub mod Written

@@ -1,60 +1,28 @@
 //! The journal of tenants' books on disk.
 
-ghost use Rattle.std.specs.Prelude.{◌≡◌, ◌≢◌, ◌≤◌, ◌+◌, ◌↔◌, ◌++◌, ◌⊎◌, [], drop, false, true, fold, length, map, All, slice_index_or, slice_set, Err, IfOk, OnErr, OnOk};
+ghost use Rattle.std.specs.Prelude.{◌≡◌, ◌≢◌, ◌↔◌, ◌++◌, ◌⊎◌, [], drop, false, true, fold, length, map, All, slice_index_or, slice_set, Err, IfOk, OnErr, OnOk};
 ghost use Rattle.book_journal.specs.Written.{HasNoRoom, IsCommitted, closed_state, commit_text, first_place, lines_from, new_records, noted, place_in};
-ghost use Rattle.book_journal.specs.declared.journal.CommitFault.TheVariants.{Memory};
-ghost use Rattle.book_log.specs.Lines.{place_of};
-ghost use Rattle.book_log.specs.Sums.{sum_line};
 ghost use Rattle.book_log.specs.Written.{IsLoggable};
 ghost use Rattle.line_log.specs.File.{LeavesOnly};
 ghost use Rattle.line_log.specs.Log.{IsLines, IsSettled, IsWithSome, recovered};
 ghost use Rattle.tenant_core.specs.Sound.{IsSound};
 
-use crate::lines::put_lines;
+use crate::lines::{first_place, place_after, put_new_lines};
 use crate::loggable::{book_is_loggable, books_are_loggable, period_is_loggable};
-use book_log::{LinePlace, TenantStart, place_of, put_sum};
-use line_log::{Log, LogError, LogFile, next_sum, whole_lines};
+use crate::writer::{CommitFault, LogWriter};
+use book_log::{LinePlace, TenantStart, place_of};
+use line_log::{Log, LogError, LogFile};
 use std::alloc::{AllocError, Global};
 use std::marker::Model;
 use tenant_core::{Book, Period};
-use thiserror::Error;
-
-/// Why a commit failed.
-#[derive(Clone, Copy, Debug, PartialEq, Eq, Error)]
-pub enum CommitFault {
-    /// An allocation failed. Nothing was written.
-    #[error("out of memory")]
-    Memory,
-    /// The text of a commit is not whole lines. Nothing was written.
-    #[error("a record is no line")]
-    Line,
-    /// The books are not those of its tenants. Nothing was written.
-    #[error("not the books of its tenants")]
-    Tenants,
-    #[error("{0}")]
-    Log(LogError),
-    /// A call has failed before, after which nothing can be written.
-    #[error("nothing can be written any more")]
-    Spoilt,
-}
-
-impl From<AllocError> for CommitFault {
-    ghost from_gives = { λ _ e. e ≡ Memory };
-
-    fn from(_: AllocError) -> Self {
-        CommitFault::Memory
-    }
-}
 
 /// The journal of tenants on disk. What their books get is noted as lines; a commit writes those that are not on the
 /// disk, with their sum, and syncs them.
 #[derive(Drop)]
 pub struct Journal<D: LogFile> {
-    log: Log<D>,
-    sum: [u8; 32],
+    writer: LogWriter<D>,
     pending: Vec<u8>,
     places: Vec<LinePlace>,
-    spoilt: bool,
 }
 
 impl<D: LogFile> Model for Journal<D> {
@@ -62,18 +30,7 @@ impl<D: LogFile> Model for Journal<D> {
 
     ghost Value = { Written D };
 
-    ghost view = { λ j. record { log = j.log; sum = j.sum; pending = j.pending.items; places = j.places.items; spoilt = j.spoilt } };
-}
-
-// The place of a tenant's first record.
-fn first_place(start: &TenantStart) -> LinePlace
-    ensures { result ≡ first_place start.now }
-{
-    LinePlace {
-        tenant: start.opening.tenant,
-        period: start.opening.period,
-        number: 0,
-    }
+    ghost view = { λ j. record { log = j.writer.log; sum = j.writer.sum; pending = j.pending.items; places = j.places.items; spoilt = j.writer.spoilt } };
 }
 
 // The places of the first records of these tenants.
@@ -82,24 +39,9 @@ fn first_places(alloc: Global, starts: &[TenantStart]) -> Result<Vec<LinePlace>,
 {
     let mut places = Vec::new(alloc);
     for start in starts {
-        places.push(first_place(start))?;
+        places.push(first_place(&start.opening))?;
     }
     Ok(places)
-}
-
-// The same place in a period of that number.
-fn place_in(place: LinePlace, period: u64) -> LinePlace
-    ensures { result ≡ place_in place period }
-{
-    if place.period == period {
-        place
-    } else {
-        LinePlace {
-            tenant: place.tenant,
-            period,
-            number: 0,
-        }
-    }
 }
 
 impl<D: LogFile + Drop> Journal<D> {
@@ -116,11 +58,9 @@ impl<D: LogFile + Drop> Journal<D> {
     {
         let places = first_places(alloc, starts)?;
         Ok(Journal {
-            log,
-            sum,
+            writer: LogWriter::new(log, sum),
             pending: Vec::new(alloc),
             places,
-            spoilt: false,
         })
     }
 
@@ -128,7 +68,7 @@ impl<D: LogFile + Drop> Journal<D> {
     pub fn log(&self) -> &Log<D>
         ensures { result.now ≡ self.now.log }
     {
-        &self.log
+        self.writer.log()
     }
 
     /// Notes what the book of a tenant has got since it was noted last, in its running period. If it is out of memory, the
@@ -148,8 +88,7 @@ impl<D: LogFile + Drop> Journal<D> {
         ensures spoilt { OnErr result (self.new.spoilt ≡ true) }
         ensures log { self.new.log ≡ self.old.log }
     {
-        let next = place_of(book);
-        self.note_records(book.journal(), next)
+        self.note_records(book.journal(), place_of(book))
     }
 
     /// Notes what the book of a tenant got in a period that a roll closed, the roll too. If it is out of memory, the journal is
@@ -161,13 +100,7 @@ impl<D: LogFile + Drop> Journal<D> {
         ensures log { self.new.log ≡ self.old.log }
     {
         period_is_loggable(&self.places, period);
-        let records = period.records();
-        let next = LinePlace {
-            tenant: period.tenant(),
-            period: period.number(),
-            number: records.len() as u64,
-        };
-        self.note_records(records.journal(), next)
+        self.note_records(period.records().journal(), place_after(period))
     }
 
     // Notes the records of a period. That is the place after the last.
@@ -186,13 +119,11 @@ impl<D: LogFile + Drop> Journal<D> {
         ensures sound { OnOk result (self.new.spoilt ≡ self.old.spoilt) }
         ensures spoilt { OnErr result (self.new.spoilt ≡ true) }
     {
-        let Some(known) = self.places.get_mut(next.tenant) else {
+        let Some(place) = self.places.get_mut(next.tenant) else {
             return Ok(());
         };
-        let place = place_in(*known, next.period);
-        *known = next;
-        if put_lines(&mut self.pending, records, place).is_err() {
-            self.spoilt = true;
+        if put_new_lines(&mut self.pending, place, records, next).is_err() {
+            self.writer.spoil();
             return Err(AllocError);
         }
         Ok(())
@@ -263,26 +194,7 @@ impl<D: LogFile + Drop> Journal<D> {
         ensures own_books { result ≢ Err CommitFault.Tenants }
         ensures spoilt { OnErr result ((result ≡ Err (CommitFault.Log LogError.Full)) ⊎ (self.new.spoilt ≡ true)) }
     {
-        if self.spoilt {
-            return Err(CommitFault::Spoilt);
-        }
-        if self.pending.is_empty() {
-            return Ok(());
-        }
-        let sum = next_sum(&self.sum, &self.pending);
-        match write_summed(&mut self.log, &mut self.pending, &sum) {
-            Ok(()) => {}
-            Err(CommitFault::Log(LogError::Full)) => {
-                return Err(CommitFault::Log(LogError::Full));
-            }
-            Err(fault) => {
-                self.spoilt = true;
-                return Err(fault);
-            }
-        }
-        self.pending.clear();
-        self.sum = sum;
-        Ok(())
+        self.writer.commit(&mut self.pending)
     }
 }
 
@@ -292,42 +204,5 @@ fn are_sound(books: &[Book])
 {
     for book in books {
         tenant_core::laws::book_is_sound(book);
-    }
-}
-
-// Writes lines after the records of a log, with that sum, and syncs them.
-fn write_summed<D: LogFile>(
-    log: &mut Log<D>,
-    lines: &mut Vec<u8>,
-    sum: &[u8; 32],
-) -> Result<(), CommitFault>
-    ensures acknowledged { OnOk result (IsSettled D.seen D.may_leave log.new
-        × (recovered (D.seen log.new.file) ≡ recovered (D.seen log.old.file) ++ recovered (lines.old.items ++ sum_line sum.now))
-        × IsLines (lines.old.items ++ sum_line sum.now)) }
-    ensures any_moment { log.old.broken ≡ false → (log.new ≡ log.old)
-        ⊎ LeavesOnly D.moment D.left_since log.old.file log.new.file
-        (IsWithSome (recovered (D.seen log.old.file)) (recovered (lines.old.items ++ sum_line sum.now))) }
-    ensures unbroken { OnOk result (log.old.broken ≡ false) }
-    ensures full { result ≡ Err (CommitFault.Log LogError.Full)
-        → (log.old.broken ≡ false) × (log.old.size ≤ log.old.end + length (lines.old.items ++ sum_line sum.now)) }
-    ensures untouched { result ≡ Err (CommitFault.Log LogError.Full) → (log.new ≡ log.old) × (lines.new.items ≡ lines.old.items) }
-    ensures no_lines { result ≡ Err CommitFault.Line → IsLines (lines.old.items ++ sum_line sum.now) → ⊥ }
-    ensures failed { result ≡ Err (CommitFault.Log LogError.Failed) → D.has_failed log.new.file ≡ true }
-    ensures broken { result ≡ Err (CommitFault.Log LogError.Broken) → log.old.broken ≡ true }
-    ensures others { (result ≢ Err CommitFault.Tenants) × (result ≢ Err CommitFault.Spoilt) }
-{
-    let length = lines.len();
-    put_sum(lines, sum)?;
-    let whole = whole_lines(lines);
-    if whole.len() != lines.len() {
-        return Err(CommitFault::Line);
-    }
-    match log.append(whole) {
-        Ok(()) => Ok(()),
-        Err(LogError::Full) => {
-            lines.truncate(length);
-            Err(CommitFault::Log(LogError::Full))
-        }
-        Err(fault) => Err(CommitFault::Log(fault)),
     }
 }

@@ -4,5 +4,9 @@
 mod journal;
 mod lines;
 mod loggable;
+mod notes;
+mod writer;
 
-pub use journal::{CommitFault, Journal};
+pub use journal::Journal;
+pub use notes::Notes;
+pub use writer::{CommitFault, LogWriter};

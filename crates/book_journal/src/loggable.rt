@@ -3,13 +3,15 @@
 ghost use Rattle.std.specs.Prelude.{◌≡◌, drop, slice_index_or, true};
 ghost use Rattle.std.specs.List.{All};
 ghost use Rattle.book_journal.specs.Loggable.{HasAddress};
-ghost use Rattle.book_journal.specs.Written.{closed_state, new_records, place_in};
+ghost use Rattle.book_journal.specs.Noted.{unnoted};
+ghost use Rattle.book_journal.specs.Written.{closed_state, new_records};
 ghost use Rattle.book_log.specs.Written.{AreChangeSecrets, AreEntrySecrets, AreSecrets, IsLoggable};
 ghost use Rattle.statements.specs.ReadBack.{AreWritable, IsChange, IsEntry, IsHash, IsHop, IsKey, IsNumber, IsOutcome, IsRate};
 ghost use Rattle.tenant_core.specs.State.{entered_at};
 ghost use Rattle.tenant_core.specs.Terms.{are_limits_within, is_bucket_within};
 ghost use Rattle.tenant_core.specs.Views.{entry_of, record_of};
 
+use crate::lines::{place_after, place_in};
 use book_log::{LinePlace, place_of};
 use tenant_core::{
     AnswerKey, Book, BucketTerms, Change, EntryView, Hop, Journal, Outcome, PeerLimits, PeerTerms,
@@ -131,14 +133,34 @@ fn are_kept(records: &Journal, from: u64)
     }
 }
 
-// The number of the first record that has no line by these places, of a tenant whose next record has that place.
-fn first_new(places: &[LinePlace], next: LinePlace) -> u64
-    ensures { result ≡ (place_in (slice_index_or places.now next.tenant next) next.period).number }
+/// A line can hold each record of a book that has none, by the place of the first one.
+pub fn book_is_loggable_from(place: LinePlace, book: &Book)
+    ensures { All IsLoggable (unnoted place book.now) }
+{
+    tenant_core::laws::book_is_sound(book);
+    ilp_addr::laws::addresses();
+    are_kept(book.journal(), place_in(place, book.period()).number);
+}
+
+/// A line can hold each record of a closed period that has none, by the place of the first one.
+pub fn period_is_loggable_from(place: LinePlace, period: &Period)
+    ensures { All IsLoggable (unnoted place (closed_state period.now)) }
+{
+    tenant_core::laws::period_is_kept(period);
+    ilp_addr::laws::addresses();
+    are_kept(
+        period.records().journal(),
+        place_in(place, period.number()).number,
+    );
+}
+
+// The place of a tenant's first record without a line by these places; `next`, after its last record, if none is kept for it.
+fn place_by(places: &[LinePlace], next: LinePlace) -> LinePlace
+    ensures { result ≡ slice_index_or places.now next.tenant next }
 {
     match places.get(next.tenant) {
-        Some(place) if place.period != next.period => 0,
-        Some(place) => place.number,
-        None => next.number,
+        Some(place) => *place,
+        None => next,
     }
 }
 
@@ -146,24 +168,14 @@ fn first_new(places: &[LinePlace], next: LinePlace) -> u64
 pub fn book_is_loggable(places: &[LinePlace], book: &Book)
     ensures { All IsLoggable (new_records places.now book.now) }
 {
-    tenant_core::laws::book_is_sound(book);
-    ilp_addr::laws::addresses();
-    are_kept(book.journal(), first_new(places, place_of(book)));
+    book_is_loggable_from(place_by(places, place_of(book)), book);
 }
 
 /// A line can hold each record of a closed period that has none by these places.
 pub fn period_is_loggable(places: &[LinePlace], period: &Period)
     ensures { All IsLoggable (new_records places.now (closed_state period.now)) }
 {
-    tenant_core::laws::period_is_kept(period);
-    ilp_addr::laws::addresses();
-    let records = period.records();
-    let next = LinePlace {
-        tenant: period.tenant(),
-        period: period.number(),
-        number: records.len() as u64,
-    };
-    are_kept(records.journal(), first_new(places, next));
+    period_is_loggable_from(place_by(places, place_after(period)), period);
 }
 
 /// A line can hold each record of the books that has none by these places.

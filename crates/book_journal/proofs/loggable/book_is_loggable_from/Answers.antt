@@ -1,0 +1,18 @@
+use Rattle.std.proofs.Common.{List, sym, subst}
+use Rattle.std.specs.List.{All}
+use Rattle.book_log.specs.Written.{IsLoggable}
+use Rattle.tenant_core.specs.declared.journal.Record.{Record}
+use Rattle.book_journal.specs.Loggable.{HasAddress}
+use Rattle.book_journal.proofs.Addressed.{replay_has}
+use Rattle.book_journal.proofs.Visited.{all_unnoted}
+use Rattle.book_journal.proofs.loggable.book_is_loggable_from.Goals as goal
+
+pub are_kept-requires : goal.are_kept-requires
+are_kept-requires c =
+    subst (λ (rs : List Record). All (λ (r : Record). HasAddress r.entry) rs) (sym c.journal.ensures)
+    (replay_has c.addresses.ensures c.args.book.now c.book_is_sound.ensures.replay)
+
+pub returns : goal.returns
+returns c =
+    all_unnoted IsLoggable c.args.place c.place_in.result c.args.book.now c.period.result _ c.place_in.ensures c.period.ensures
+    c.journal.ensures c.are_kept.ensures
