@@ -3,13 +3,11 @@
 //! - the limits of their setups and networks, verdicts at the bounds of what was agreed, the checks that decide, and what comes
 //!   back;
 //! - closed periods, their audits, their statements, chains of statements and texts of receipts;
-//! - copies and owned entries; journals on disk, and what is left of them.
+//! - copies and owned entries.
 
 mod audits;
 mod chained;
 mod explained;
-mod journal_texts;
-mod journals;
 mod limits;
 mod owned;
 mod periods;

@@ -1,10 +1,17 @@
-//! Tests of journals on disk, over real files: pairs of files, locks, folders that are only read, and what is refused.
+//! Tests of journals on disk: runs as text, what is left of them, and notes; over real files, pairs of files, locks, folders that
+//! are only read, and what is refused.
 //!
 //! The crate has only tests: a crate with tests is proved twice, so the crates below have none of their own.
 #![tactic(auto)]
 
 #[cfg(test)]
+mod journal_texts;
+#[cfg(test)]
+mod journals;
+#[cfg(test)]
 mod locks;
+#[cfg(test)]
+mod notes;
 #[cfg(test)]
 mod pairs;
 #[cfg(test)]

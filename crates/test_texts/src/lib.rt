@@ -1,7 +1,8 @@
-//! What the tests of several crates are written in: the usual setup and changes of it, frames by their names, and numbers that
-//! look random.
+//! What the tests of several crates are written in: the usual setup and changes of it, books of two peers, frames by their names,
+//! and numbers that look random.
 #![tactic(auto)]
 
+pub mod books;
 mod draws;
 mod frames;
 mod setups;

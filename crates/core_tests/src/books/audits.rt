@@ -1,7 +1,5 @@
 //! What an audit says of receipts of a packet that was fulfilled, and what is wrong with them.
 
-use super::periods::closed;
-use super::setups::{START, USUAL, answer, begun, moment, send, tenant, tick};
 use common_types::Spare;
 use ilp_addr::MAX_ADDRESS;
 use receipts::{AuditFault, Receipt, audit};
@@ -10,6 +8,7 @@ use std::process::Abort;
 use std::slice;
 use std::test::Fail;
 use tenant_core::{AnswerKey, Book, Outcome, Period, Verdict};
+use test_texts::books::{START, USUAL, answer, begun, closed, moment, send, tenant, tick};
 
 // What became of an audit: how many tenants, periods and receipts, or why it says no.
 #[derive(Clone, Copy, Debug, PartialEq, Eq)]

@@ -1,8 +1,5 @@
 //! Chains of statements: what goes on, what does not, and the sums of all.
 
-use super::owned::period_of_each;
-use super::periods::closed;
-use super::setups::{START, USUAL, answer, book, moment, send, tick};
 use admin_text::parse_command;
 use common_types::ReadError;
 use statements::{Chain, ChainFault, write_statement};
@@ -10,6 +7,7 @@ use std::alloc::Global;
 use std::process::Abort;
 use std::test::Fail;
 use tenant_core::{AnswerKey, Book, Verdict};
+use test_texts::books::{START, USUAL, answer, book, closed, moment, period_of_each, send, tick};
 
 fn order(alloc: Global, book: &mut Book, words: &str) -> Result<(), Fail> {
     let command = match parse_command(alloc, words.as_bytes()) {

@@ -1,14 +1,14 @@
 //! Which check decides on a packet, and that nothing is recorded by asking.
 
-use super::setups::{
-    Agreed, CONDITION, START, USUAL, add_route_to, begun, called, moment, network, number, send,
-    tenant_of,
-};
 use ilp_addr::{Address, Moment, Prefix};
 use std::alloc::Global;
 use std::process::Abort;
 use std::test::Fail;
 use tenant_core::{Book, Expiry, Finding, Network, PrepareKey, TenantSetup, Verdict};
+use test_texts::books::{
+    Agreed, CONDITION, START, USUAL, add_route_to, begun, called, moment, network, number, send,
+    tenant_of,
+};
 
 /// A packet that is asked of after so many others went on: where it goes, and which check decides. It expires so many
 /// milliseconds after the start.

@@ -1,10 +1,10 @@
 //! The limits of setups and networks.
 
-use super::setups::{USUAL, add_peer, add_route, name, network, set_rate, tenant};
 use std::alloc::Global;
 use std::process::Abort;
 use std::test::Fail;
 use tenant_core::{CommandFault, Network, number_named};
+use test_texts::books::{USUAL, add_peer, add_route, name, network, set_rate, tenant};
 
 // Places of a journal, margin and longest hold, and whether they are a setup's.
 static SETUPS: [(u64, u64, u64, bool); 8] = [

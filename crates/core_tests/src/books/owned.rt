@@ -1,34 +1,12 @@
 //! Owned entries, and what makes entries differ.
 
-use super::periods::closed;
-use super::setups::{START, USUAL, answer, book, moment, send, tick};
 use common_types::Spare;
-use ilp_addr::{MAX_ADDRESS, Prefix};
+use ilp_addr::MAX_ADDRESS;
 use std::alloc::Global;
 use std::process::Abort;
 use std::test::Fail;
-use tenant_core::{AnswerKey, Book, Command, Entry, Journal, Opening, Order, Period, Record};
-
-fn take_route(alloc: Global, book: &mut Book) -> Result<(), Fail> {
-    let order = Order::RemoveRoute(Prefix::parse(alloc, b"g.acme.bob")?);
-    let now = moment(START + 1)?;
-    let _ = book.command(alloc, &Command::Order(order), now)?;
-    Ok(())
-}
-
-fn enter_each(alloc: Global, book: &mut Book) -> Result<Period, Fail> {
-    send(book, START)?;
-    answer(book, 0, START + 1, AnswerKey::Rejected)?.ok();
-    tick(book, START + 1)?.ok();
-    take_route(alloc, book)?;
-    closed(alloc, book)
-}
-
-// A period in which each kind of entry came once.
-pub fn period_of_each(alloc: Global) -> Result<Period, Fail> {
-    let mut book = book(alloc, 8, USUAL, START)?;
-    enter_each(alloc, &mut book)
-}
+use tenant_core::{Entry, Journal, Opening, Period, Record};
+use test_texts::books::period_of_each;
 
 // The entry at that place, as one's own.
 fn owned(alloc: Global, journal: &Journal, place: usize) -> Result<Entry, Fail> {

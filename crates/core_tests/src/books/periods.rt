@@ -1,28 +1,14 @@
 //! Closed periods, and copies.
 
-use super::setups::{
-    START, USUAL, Wanted, answer, book, expect_sent, moment, owed_and_held, send, tick, verdict,
-};
+use super::setups::{Wanted, expect_sent, verdict};
 use std::alloc::Global;
 use std::process::Abort;
 use std::test::Fail;
-use tenant_core::{AnswerKey, Answered, Book, Command, CommandFault, Period, Verdict};
-
-// A command to close the period, a millisecond after the book's start.
-fn roll(alloc: Global, book: &mut Book) -> Result<Result<Answered, CommandFault>, Fail> {
-    let now = moment(START + 1)?;
-    Ok(book.command(alloc, &Command::Roll, now))
-}
+use tenant_core::{AnswerKey, Book, CommandFault, Period, Verdict};
+use test_texts::books::{START, USUAL, answer, book, closed, owed_and_held, roll, send, tick};
 
 fn fault_of_roll(alloc: Global, book: &mut Book) -> Result<Option<CommandFault>, Fail> {
     Ok(roll(alloc, book)?.err())
-}
-
-pub fn closed(alloc: Global, book: &mut Book) -> Result<Period, Fail> {
-    match roll(alloc, book)?? {
-        Answered::Rolled(period) => Ok(period),
-        Answered::Done | Answered::Balances(_) => Err(Fail::from("a period")),
-    }
 }
 
 // Whether the period is the first one of the first tenant.

@@ -1,7 +1,6 @@
 //! Texts of receipts: what is written of complete ones is audited, and what is changed is not.
 
 use super::audits::receipt;
-use super::owned::period_of_each;
 use receipt_text::{ReceiptsFault, check_receipts, write_receipts};
 use receipts::AuditFault;
 use std::alloc::Global;
@@ -9,6 +8,7 @@ use std::process::Abort;
 use std::slice;
 use std::test::Fail;
 use tenant_core::Period;
+use test_texts::books::period_of_each;
 
 // The receipts of the period of `period_of_each`, which two workers kept by turns.
 const TEXT: &str = "receipts 1

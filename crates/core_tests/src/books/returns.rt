@@ -1,12 +1,11 @@
 //! What comes back, once for each packet, and what it moves.
 
-use super::setups::{
-    START, USUAL, Wanted, answer, book, expect_sent, owed_and_held, tick, verdict,
-};
+use super::setups::{Wanted, expect_sent, verdict};
 use std::alloc::Global;
 use std::process::Abort;
 use std::test::Fail;
 use tenant_core::{AnswerKey, Book, HoldFault, RejectCode, Verdict};
+use test_texts::books::{START, USUAL, answer, book, owed_and_held, tick};
 
 /// What comes back for a packet of 1,000 units that goes on as 1,500, how long after the start, and whether a tick
 /// comes just before. Then the verdict, and what is owed after it.

@@ -1,9 +1,10 @@
 //! As many packets as a tenant can hold.
 
-use super::setups::{Agreed, START, USUAL, Wanted, answer, book, decide, tick, verdict};
+use super::setups::{Wanted, decide, verdict};
 use std::process::Abort;
 use std::test::Fail;
 use tenant_core::{AnswerKey, Book, PeerNo, RejectCode};
+use test_texts::books::{Agreed, START, USUAL, answer, book, tick};
 
 fn expect_decided(
     rt: &impl Abort,

@@ -1,12 +1,12 @@
 //! Statements of closed periods: what is written is good, and what was changed is not, unless it states another truth.
 
-use super::owned::period_of_each;
 use common_types::ReadError;
 use statements::{StatementFault, check_statement, write_statement};
 use std::alloc::Global;
 use std::process::Abort;
 use std::test::Fail;
 use tenant_core::Period;
+use test_texts::books::period_of_each;
 
 // The period of `period_of_each`: a packet of 1,000 that goes on for 1,500 and is rejected a millisecond later, a moment, a route
 // that is taken away, and the roll. One packet is gone from the first peer's bucket, into which a tenth of one came since.

@@ -1,12 +1,11 @@
 //! Verdicts at the bounds of what was agreed.
 
-use super::setups::{
-    Agreed, GREATEST, LAST_EXPIRY, LATEST, MOST, START, USUAL, Wanted, book, decide, verdict,
-};
+use super::setups::{GREATEST, LAST_EXPIRY, LATEST, MOST, Wanted, decide, verdict};
 use std::alloc::Global;
 use std::process::Abort;
 use std::test::Fail;
 use tenant_core::{Book, RejectCode, Verdict};
+use test_texts::books::{Agreed, START, USUAL, book};
 
 /// Packets of p0 for p1, one after another: the amount, the expiry and the moment of each, and its verdict. Moments are
 /// counted from the start.

@@ -1,13 +1,14 @@
 //! A journal as text, written and read back, with each kind of entry.
 
-use super::owned::period_of_each;
-use super::setups::token;
-use book_log::{LinePlace, TenantStart, put_line, put_sum, read_base, reopen, write_base};
+use book_log::{
+    LinePlace, Reopened, TenantStart, put_line, put_sum, read_base, reopen, write_base,
+};
 use line_log::next_sum;
 use std::alloc::Global;
 use std::process::Abort;
 use std::test::Fail;
 use tenant_core::{Opening, Period};
+use test_texts::books::{period_of_each, token};
 
 fn starts_of(alloc: Global, opening: &Opening) -> Result<Vec<TenantStart>, Fail> {
     let mut starts = Vec::new(alloc);
@@ -61,19 +62,25 @@ fn bases_are_read_back(rt: HostRuntime) -> Result<(), Fail> {
     expect_base(&rt, rt.alloc(), period.ending())
 }
 
-#[test]
-fn a_journal_is_read_back(rt: HostRuntime) -> Result<(), Fail> {
-    let alloc = rt.alloc();
-    let period = period_of_each(alloc)?;
+fn expect_second_period(rt: &impl Abort, left: &Reopened) -> Result<(), Fail> {
+    assert_eq!(rt; left.books.len(), 1);
+    let book = left.books.first().ok_or("a book")?;
+    assert_eq!(rt; book.period(), 1);
+    Ok(())
+}
+
+fn expect_read_back(rt: &impl Abort, alloc: Global, period: &Period) -> Result<(), Fail> {
     let starts = starts_of(alloc, period.opening())?;
     let (base, sum) = write_base(alloc, &starts)?;
-    let log = log_of(alloc, &period, &sum)?;
+    let log = log_of(alloc, period, &sum)?;
     match reopen(alloc, &base, &log) {
-        Ok(reopened) => {
-            assert!(rt; reopened.books.len() == 1);
-            assert!(rt; reopened.books[0].period() == 1);
-            Ok(())
-        }
+        Ok(left) => expect_second_period(rt, &left),
         Err(_) => Err(Fail::from("a journal")),
     }
+}
+
+#[test]
+fn a_journal_is_read_back(rt: HostRuntime) -> Result<(), Fail> {
+    let period = period_of_each(rt.alloc())?;
+    expect_read_back(&rt, rt.alloc(), &period)
 }

@@ -2,9 +2,6 @@
 
 ghost use Rattle.std.specs.Prelude.{◌<◌};
 
-use super::setups::{
-    START, USUAL, answer, moment, owed_and_held, send, setup_of, terms, tick, token,
-};
 use book_journal::{CommitFault, Journal};
 use book_log::{JournalFault, Reopened, TenantStart, place_of, reopen, write_base};
 use book_recovery::{close, give_up_all};
@@ -15,6 +12,9 @@ use std::alloc::Global;
 use std::process::Abort;
 use std::test::Fail;
 use tenant_core::{AnswerKey, Book, Command, Opening, Order};
+use test_texts::books::{
+    START, USUAL, answer, moment, owed_and_held, send, setup_of, terms, tick, token,
+};
 
 // A tenant of two peers, before anything happened.
 const BASE: &str = "journal 1
@@ -32,7 +32,7 @@ sum f9353dc61e61338bf71330a2e8c30c627298ad9ea157602df58c762a669de39b
 
 // A packet of 1,000 that is fulfilled, for 1,500; another that awaits its answer; a moment; a peer and a route; a packet that no
 // route leads on. The sums are those of Python's hashlib.
-const LOG: &str =
+pub const LOG: &str =
     "0 0 0 1893456000000 prepare 0 1000 1893456030000 66687aadf862bd776c8fc18b8e9f8e20089714856ee233b3902a591d0d5f2925 g.acme.bob.x = forward 0 1 1500 1893456029000
 0 0 1 1893456000001 fulfill 0 0000000000000000000000000000000000000000000000000000000000000000 = relay
 sum 423d454374649d63396eb9d57a31991a8e3b3cf74683d339363ee81b1193b353
@@ -46,7 +46,7 @@ sum e2ee72f35b477757159c4a481de54882922294bb91d2a873d5dc0864ea8b3f9b
 ";
 
 // After which of its records a commit ends.
-const COMMITS: [u64; 3] = [1, 2, 6];
+pub const COMMITS: [u64; 3] = [1, 2, 6];
 
 // What p0 and p1 owe after so many records, and what is held from p0 and for p1.
 const OWED: [(i64, i64, u64, u64); 8] = [
@@ -66,7 +66,7 @@ fn order(alloc: Global, book: &mut Book, order: Order, now: u64) -> Result<(), F
 }
 
 // Does what the record of that number is of.
-fn enter(alloc: Global, book: &mut Book, number: u64) -> Result<(), Fail>
+pub fn enter(alloc: Global, book: &mut Book, number: u64) -> Result<(), Fail>
     requires { number < 7 }
 {
     let now = START + number;
@@ -89,12 +89,13 @@ fn enter(alloc: Global, book: &mut Book, number: u64) -> Result<(), Fail>
     Ok(())
 }
 
-fn opening(alloc: Global) -> Result<Opening, Fail> {
+// What the tenant begins with.
+pub fn opening(alloc: Global) -> Result<Opening, Fail> {
     let setup = setup_of(alloc, 64, USUAL)?;
     Ok(Opening::first(alloc, 0, &setup, moment(START)?)?)
 }
 
-fn start_of(alloc: Global) -> Result<[TenantStart; 1], Fail> {
+pub fn start_of(alloc: Global) -> Result<[TenantStart; 1], Fail> {
     let opening = opening(alloc)?;
     let admin = token(b"root-a")?;
     Ok([TenantStart { opening, admin }])
@@ -119,19 +120,29 @@ fn commit_after(journal: &mut Journal<Memory>, number: u64) -> Result<(), Commit
     }
 }
 
-// Notes the run in a journal, and commits it after some records.
-fn note_run(alloc: Global, journal: &mut Journal<Memory>) -> Result<Result<(), CommitFault>, Fail> {
-    let Ok(mut book) = Book::reopened(alloc, opening(alloc)?) else {
-        return Err(Fail::from("a book"));
-    };
+// Does all of the run, notes it in a journal, and commits it after some records.
+fn note_each(
+    alloc: Global,
+    journal: &mut Journal<Memory>,
+    book: &mut Book,
+) -> Result<Result<(), CommitFault>, Fail> {
     for number in 0..7 {
-        enter(alloc, &mut book, number)?;
-        journal.note(&book)?;
+        enter(alloc, book, number)?;
+        journal.note(book)?;
         if let Err(fault) = commit_after(journal, number) {
             return Ok(Err(fault));
         }
     }
     Ok(Ok(()))
+}
+
+// The same from its beginning.
+fn note_run(alloc: Global, journal: &mut Journal<Memory>) -> Result<Result<(), CommitFault>, Fail> {
+    let opening = opening(alloc)?;
+    match Book::reopened(alloc, opening) {
+        Ok(mut book) => note_each(alloc, journal, &mut book),
+        Err(_) => Err(Fail::from("a book")),
+    }
 }
 
 #[test]
@@ -247,19 +258,26 @@ fn ended(alloc: Global, book: &mut Book) -> Result<(usize, (i64, i64, u64, u64))
     Ok((period.len(), owed))
 }
 
-#[test]
-fn what_is_held_gets_no_answer(rt: HostRuntime) -> Result<(), Fail> {
-    let alloc = rt.alloc();
-    let Ok(mut left) = reopen(alloc, BASE.as_bytes(), LOG.as_bytes()) else {
-        return Err(Fail::from("books"));
-    };
+fn expect_place(rt: &impl Abort, book: &Book) {
+    let place = place_of(book);
+    assert!(rt; (place.tenant, place.period, place.number) == (0, 0, 7));
+}
+
+fn expect_ended(rt: &impl Abort, alloc: Global, left: &mut Reopened) -> Result<(), Fail> {
     let admin = left.admins.first().ok_or("a token")?;
     assert!(rt; admin.as_bytes() == b"root-a".as_slice());
     let book = left.books.first_mut().ok_or("a book")?;
-    let place = place_of(book);
-    assert!(rt; (place.tenant, place.period, place.number) == (0, 0, 7));
+    expect_place(rt, book);
     // The seven records, the answer that did not come, and the roll.
     assert!(rt; ended(alloc, book)? == (9, (1_000, -1_500, 0, 0)));
     assert_eq!(rt; book.period(), 1);
     Ok(())
+}
+
+#[test]
+fn what_is_held_gets_no_answer(rt: HostRuntime) -> Result<(), Fail> {
+    match reopen(rt.alloc(), BASE.as_bytes(), LOG.as_bytes()) {
+        Ok(mut left) => expect_ended(&rt, rt.alloc(), &mut left),
+        Err(_) => Err(Fail::from("books")),
+    }
 }
