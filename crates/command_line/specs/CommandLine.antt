@@ -1,5 +1,5 @@
 -- What the command line asks for.
-use Rattle.std.specs.Prelude.{ℕ, ◌≤◌, IfSome}
+use Rattle.std.specs.Prelude.{ℕ, ◌≤◌, Bool, false, IfSome}
 use Rattle.books_shared.specs.Gathers.{max_workers}
 use Rattle.command_line.specs.declared.usage.Task.{Task}
 use Rattle.command_line.specs.declared.usage.TheConstants.{MAX_ROUNDS}
@@ -14,3 +14,8 @@ IsBounded Verify = Unit {0}
 IsBounded Recover = Unit {0}
 IsBounded (Serve connections rounds balances audit) =
     (1 ≤ connections) × (connections ≤ max_workers) × IfSome rounds (λ n. (1 ≤ n) × (n ≤ MAX_ROUNDS))
+
+-- a service may audit its receipts
+abbrev pub audits : Task → Bool
+audits (Serve connections rounds balances audit) = audit
+audits _ = false

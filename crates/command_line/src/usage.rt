@@ -1,9 +1,9 @@
 //! The words of the command line, and what they ask for.
 
-ghost use Rattle.std.specs.Prelude.{◌≡◌, ◌≤◌, IfOk, IfSome};
+ghost use Rattle.std.specs.Prelude.{◌≡◌, ◌≤◌, IfOk, IfSome, IsNone, OnOk, true};
 ghost use Rattle.books_shared.specs.Gathers.{max_workers};
 ghost use Rattle.floor_core.specs.FloorView.{max_seats};
-ghost use Rattle.command_line.specs.CommandLine.{IsBounded};
+ghost use Rattle.command_line.specs.CommandLine.{IsBounded, audits};
 
 use books_shared::MAX_WORKERS;
 use clap::error::ErrorKind;
@@ -73,7 +73,7 @@ pub struct CommandLine<'a> {
     pub receipts: Option<&'a str>,
     /// At how many hundredths of its entries, 1 to 100, a service closes a tenant's period by itself, if it does.
     pub roll_at: Option<u8>,
-    /// The folder of the journal that a replay writes, or that is verified or recovered.
+    /// The folder of the journal that a replay or a service writes, or that is verified or recovered.
     pub journal: Option<&'a str>,
     /// The file that gets the setup with which recovered books go on.
     pub recovered: Option<&'a str>,
@@ -89,7 +89,7 @@ const USAGE: &str =
     "ilpd replay SETUP [--workers W] [--statements DIR] [--journal DIR] < SCRIPT\n       ilpd check SETUP [SCRIPT [--workers W]]\n       \
 ilpd verify [--setup SETUP] [--receipts FILE] FILE..\n       ilpd verify --journal DIR\n       \
 ilpd recover DIR [--setup FILE] [--statements DIR]\n       \
-ilpd serve SETUP --workers W [--connections C] [--rounds N] [--balances] [--audit] [--listen ADDR]\n                  \
+ilpd serve SETUP --workers W [--connections C] [--rounds N] [--balances] [--audit | --journal DIR] [--listen ADDR]\n                  \
 [--host ADDR --host-token FILE] [--operators ADDR [--no-admin]] [--statements DIR] [--roll-at PERCENT]";
 
 const WHERE: &str =
@@ -385,9 +385,16 @@ fn put_operators<'a>(alloc: Global, words: &mut Vec<Arg<'a>>) -> Result<(), Allo
     put(words, no_admin(alloc)?)
 }
 
-// What happens to closed periods, and when they close.
+fn service_journal<'a>(alloc: Global) -> Arg<'a> {
+    let help =
+        "The folder that gets the journal of what is done, before any answer leaves, and with which a later start goes on";
+    text_of(alloc, "journal", "DIR", help)
+}
+
+// What happens to closed periods, where all records are kept, and when periods close.
 fn put_periods<'a>(alloc: Global, words: &mut Vec<Arg<'a>>) -> Result<(), AllocError> {
     put(words, folder_of(alloc))?;
+    put(words, service_journal(alloc))?;
     put(words, roll_at(alloc))
 }
 
@@ -408,7 +415,7 @@ fn serve_of<'a>(alloc: Global) -> Result<Command<'a>, AllocError> {
             "Serves packets and commands over HTTP, and prints in the end how many were answered how",
         )
         .override_usage(
-            "ilpd serve SETUP --workers W [--connections C] [--rounds N] [--balances] [--audit] [--listen ADDR]\n                  [--host ADDR --host-token FILE] [--operators ADDR [--no-admin]] [--statements DIR] [--roll-at PERCENT]",
+            "ilpd serve SETUP --workers W [--connections C] [--rounds N] [--balances] [--audit | --journal DIR] [--listen ADDR]\n                  [--host ADDR --host-token FILE] [--operators ADDR [--no-admin]] [--statements DIR] [--roll-at PERCENT]",
         )
         .after_help("Example: ilpd serve examples/serve.toml --workers 4")
         .args(words)
@@ -598,9 +605,9 @@ impl Limited {
     }
 }
 
-// The error of a subcommand with this text.
-fn error_of(alloc: Global, name: &str, said: &str) -> Result<Error, AllocError> {
-    subcommand_of(alloc, name)?.error(ErrorKind::ValueValidation, said)
+// The error of a subcommand, of that kind and with this text.
+fn error_of(alloc: Global, name: &str, kind: ErrorKind, said: &str) -> Result<Error, AllocError> {
+    subcommand_of(alloc, name)?.error(kind, said)
 }
 
 // That each number which the words of a subcommand have is within its limits.
@@ -609,7 +616,7 @@ fn within_limits(alloc: Global, name: &str, words: &ArgMatches<'_>) -> Result<()
         if limited.is_passed(words) {
             let given = words.get_str(limited.name).unwrap_or("");
             let said = limited.refusal(alloc, given)?;
-            return Err(error_of(alloc, name, said.as_str())?);
+            return Err(error_of(alloc, name, ErrorKind::ValueValidation, said.as_str())?);
         }
     }
     Ok(())
@@ -646,33 +653,57 @@ fn program_of<'a>(alloc: Global) -> Result<Command<'a>, AllocError> {
         .subcommands(subcommands)
 }
 
+// Whether that is a service that audits its receipts.
+fn audits(task: Task) -> bool
+    ensures { result ≡ audits task }
+{
+    matches!(task, Task::Serve { audit: true, .. })
+}
+
+/// What is said of an audit of a service with a journal: an audit needs each period from the first one on.
+const AUDITED: &str = "the argument '--audit' cannot be used with '--journal <DIR>'";
+
+// That no service with a journal audits its receipts.
+fn without_audit(alloc: Global, line: &CommandLine<'_>) -> Result<(), Error>
+    ensures { OnOk result (audits line.now.task ≡ true → IsNone line.now.journal) }
+{
+    if audits(line.task) && line.journal.is_some() {
+        return Err(error_of(alloc, "serve", ErrorKind::ArgumentConflict, AUDITED)?);
+    }
+    Ok(())
+}
+
 // What the words say, each number within its limits.
 fn checked_line<'a>(alloc: Global, matches: &ArgMatches<'a>) -> Result<CommandLine<'a>, Error>
     ensures least { IfOk result (λ line. 1 ≤ line.workers) }
     ensures most { IfOk result (λ line. line.workers ≤ max_seats) }
     ensures bounded { IfOk result (λ line. IsBounded line.task) }
+    ensures audit { IfOk result (λ line. audits line.task ≡ true → IsNone line.journal) }
 {
     all_within_limits(alloc, matches)?;
     let statements = files_of(alloc, matches)?;
     let mut line = line_in(matches);
     line.statements = statements;
+    without_audit(alloc, &line)?;
     Ok(line)
 }
 
 /// Reads the words of `ilpd replay SETUP [--workers W] [--statements DIR] [--journal DIR]`,
 /// `ilpd check SETUP [SCRIPT [--workers W]]`, `ilpd verify [--setup SETUP] [--receipts FILE] FILE..`,
 /// `ilpd verify --journal DIR`, `ilpd recover DIR [--setup FILE] [--statements DIR]` or
-/// `ilpd serve SETUP --workers W [--connections C] [--rounds N] [--balances] [--audit] [--listen ADDR] [--host ADDR
+/// `ilpd serve SETUP --workers W [--connections C] [--rounds N] [--balances] [--audit | --journal DIR] [--listen ADDR] [--host ADDR
 /// --host-token FILE] [--operators ADDR [--no-admin]] [--statements DIR] [--roll-at PERCENT]`, the program's name first.
 ///
 /// W is 1 to 64, and 1 for a script by default. C is 1 to 4,096, and 256 by default. N is 1 to 1,000,000. PERCENT is 1 to 100.
-/// The ADDR to listen on is 127.0.0.1:7768 by default. There is a host's door only if both of its words are there.
+/// The ADDR to listen on is 127.0.0.1:7768 by default. There is a host's door only if both of its words are there. A service
+/// with a journal audits nothing.
 ///
 /// The error has the text for people, also for a request for help or the version, or it is out of memory.
 pub fn arguments<'a>(alloc: Global, words: &'a [String]) -> Result<CommandLine<'a>, Error>
     ensures least { IfOk result (λ line. 1 ≤ line.workers) }
     ensures most { IfOk result (λ line. line.workers ≤ max_seats) }
     ensures bounded { IfOk result (λ line. IsBounded line.task) }
+    ensures audit { IfOk result (λ line. audits line.task ≡ true → IsNone line.journal) }
 {
     let matches = program_of(alloc)?.try_get_matches_from(words)?;
     checked_line(alloc, &matches)
