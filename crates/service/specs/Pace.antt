@@ -1,15 +1,15 @@
 -- How long a connection may do what, and when it gives up its thread.
-use Rattle.std.specs.Prelude.{ℕ, ◌-◌, ◌==◌, ◌||◌, Bool, true, false, min, nat_le, if◌then◌else◌}
+use Rattle.std.specs.Prelude.{ℕ, ◌-◌, ◌==◌, ◌||◌, Bool, true, false, min, nat_le, nat_lt, if◌then◌else◌}
 use Rattle.service.specs.declared.connection.pace.Rush.{Rush}
 use Rattle.service.specs.declared.connection.pace.Rush.TheVariants.{Calm, Crowded, Stopping}
 use Rattle.service.specs.declared.connection.pace.Activity.{Activity}
 use Rattle.service.specs.declared.connection.pace.Activity.TheVariants.{Idle, First, Busy}
 
--- a stop comes first, then a crowd: no further connection may be open, or the system refuses them
-abbrev pub rush_of : (is_closed : Bool) → (free : ℕ) → (is_refused : Bool) → Rush
-rush_of true free is_refused = Stopping
-rush_of false free true = Crowded
-rush_of false free false = if free == 0 then Crowded else Calm
+-- a stop comes first, then a crowd: so few milliseconds ago no further connection could be open, or the system refuses them
+abbrev pub rush_of : (is_closed : Bool) → (since : ℕ) → (is_refused : Bool) → Rush
+rush_of true since is_refused = Stopping
+rush_of false since true = Crowded
+rush_of false since false = if nat_lt since 250 then Crowded else Calm
 
 -- for how many milliseconds in all: 30 seconds, twice that for a first request with the wait for it, and less in a crowd or if the
 -- service stops

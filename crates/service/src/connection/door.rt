@@ -17,6 +17,8 @@ pub struct Door {
     left: AtomicU64,
     most: AtomicU64,
     open: AtomicU64,
+    // One more than how many milliseconds after the beginning as many were open as may be, last; 0 if never.
+    full_at: AtomicU64,
     waiting: AtomicU64,
     refused: AtomicBool,
     closed: AtomicBool,
@@ -38,6 +40,7 @@ impl Door {
             left: AtomicU64::new(connections),
             most: AtomicU64::new(u64::MAX),
             open: AtomicU64::new(0),
+            full_at: AtomicU64::new(0),
             waiting: AtomicU64::new(0),
             refused: AtomicBool::new(false),
             closed: AtomicBool::new(false),
@@ -74,13 +77,34 @@ impl Door {
     }
 
     /// A connection is open from now on.
-    pub fn connection_begins(&self) {
+    pub fn connection_begins(&self, clock: &impl Clock) {
         self.open.fetch_add(1, Ordering::SeqCst);
+        self.note_full(clock);
     }
 
     /// A connection has ended.
-    pub fn connection_ends(&self) {
+    pub fn connection_ends(&self, clock: &impl Clock) {
+        self.note_full(clock);
         self.open.fetch_sub(1, Ordering::SeqCst);
+    }
+
+    // Keeps that as many connections are open now as may be, if they are.
+    fn note_full(&self, clock: &impl Clock) {
+        if self.free() == 0 {
+            let now = self.age(clock).saturating_add(1);
+            self.full_at.store(now, Ordering::SeqCst);
+        }
+    }
+
+    // How many milliseconds ago as many connections were open as may be, last.
+    fn since_full(&self, clock: &impl Clock) -> u64 {
+        if self.free() == 0 {
+            return 0;
+        }
+        match self.full_at.load(Ordering::SeqCst) {
+            0 => u64::MAX,
+            at => self.age(clock).saturating_add(1).saturating_sub(at),
+        }
     }
 
     /// How many connections are open.
@@ -197,7 +221,7 @@ impl Door {
     }
 
     /// What connections that are open have to hurry for.
-    pub fn rush(&self) -> Rush {
-        rush_of(self.is_closed(), self.free(), self.is_refused())
+    pub fn rush(&self, clock: &impl Clock) -> Rush {
+        rush_of(self.is_closed(), self.since_full(clock), self.is_refused())
     }
 }

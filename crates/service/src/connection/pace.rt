@@ -9,9 +9,9 @@ pub const SLICE: u64 = 250;
 /// What a service's connections have to hurry for.
 #[derive(Clone, Copy, Debug, PartialEq, Eq)]
 pub enum Rush {
-    /// Nothing: a thread waits for the next connection.
+    /// Nothing: for a while a thread has waited for the next connection.
     Calm,
-    /// Others: a connection that comes has to wait for a thread, or the system refuses it.
+    /// Others: a connection that comes has to wait for a thread, or had to just now, or the system refuses it.
     Crowded,
     /// The end: the service stops.
     Stopping,
@@ -28,14 +28,14 @@ pub enum Activity {
     Busy,
 }
 
-/// What to hurry for: first the end of a service that is closed, then others, if as many connections are open as may be or the
-/// system has just refused one.
-pub fn rush_of(is_closed: bool, free: u64, is_refused: bool) -> Rush
-    ensures { result ≡ rush_of is_closed free is_refused }
+/// What to hurry for: first the end of a service that is closed, then others, if the system has just refused a connection, or if
+/// fewer than a quarter of a second ago as many were open as may be. That was `since` milliseconds ago, and is so now if it is 0.
+pub fn rush_of(is_closed: bool, since: u64, is_refused: bool) -> Rush
+    ensures { result ≡ rush_of is_closed since is_refused }
 {
     if is_closed {
         Rush::Stopping
-    } else if free == 0 || is_refused {
+    } else if since < SLICE || is_refused {
         Rush::Crowded
     } else {
         Rush::Calm

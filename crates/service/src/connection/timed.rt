@@ -53,7 +53,7 @@ impl<H: Clock> Side<'_, H> {
     // What there is to hurry for.
     fn rush(&self) -> Rush {
         match self.limit {
-            Limit::Paced(door, _, _) => door.rush(),
+            Limit::Paced(door, _, _) => door.rush(self.clock),
             Limit::Until(_) | Limit::Within(_) => Rush::Calm,
         }
     }
