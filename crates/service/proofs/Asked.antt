@@ -12,7 +12,7 @@ use Rattle.service.specs.declared.office.Office.{Office}
 
 pub packet_answered : {J : Type 0} {r : Ghosts J} {C : Type 0} (gives : C → ℕ → Type 0) (k clock : C) (office : Office J r) (before between after : Desk J r) (tenant : ℕ) (token body : List ℕ) (status : ℕ) (told : Status)
     → k ≡ clock → status ≡ http_code told → nat_lt tenant office.books.tenants ≡ true
-    → WasCarried (gives k) before tenant token body told between → between.told ≡ Ilp
+    → WasCarried (gives k) office before tenant token body told between → between.told ≡ Ilp
     → IsTidied (gives k) office.roll_at office between tenant after → after.told ≡ between.told
     → HasAnswered (gives clock) office before (record { kind = Ilp; tenant = tenant; token = token; body = body; status = status }) after
 packet_answered {J} {r} {C} gives k clock office before between after tenant token body status told same code there carried kind tidied kept =

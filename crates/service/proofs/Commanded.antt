@@ -11,13 +11,14 @@ use Rattle.admin_text.specs.declared.commands.TextFault.{TextFault}
 use Rattle.http_link.specs.OperatorDoor.{AsksOperatorCame, OperatorAsked}
 use Rattle.http_link.specs.Serving.{Asked}
 use Rattle.http_link.specs.declared.request.RequestKind.TheVariants.{Admin}
-use Rattle.workers.specs.Carrying.{IsDone, circumstances, growth}
+use Rattle.workers.specs.Carrying.{IsDone, growth}
 use Rattle.workers.specs.Counting.{command_kind, tallied}
 use Rattle.workers.specs.Replies.{http_code}
 use Rattle.workers.specs.declared.governing.GovernFault.TheVariants.{Spent}
 use Rattle.workers.specs.declared.reply.Status.{Status}
 use Rattle.workers.specs.declared.reply.Status.TheVariants as status
 use Rattle.service.specs.Answering.{HasAnswered, WasAskedCommand, WasGoverned, WasObeyed, WasOrdered, command_line, operator_token}
+use Rattle.service.specs.Journal.{in_office}
 use Rattle.service.specs.Operating.{HasOperated, HasVisited, IsOperated, IsReported, command_fault_line, operator_refusal, order_of, told_at}
 use Rattle.service.specs.Rolling.{IsUntouched}
 use Rattle.service.specs.declared.operators.answering.LastAnswer.TheVariants.{ByDesk}
@@ -55,7 +56,7 @@ module _ {J : Type 0} {r : Ghosts J} (Gives : ℕ → Type 0) (office : Office J
     answer = h.answer;
     spent = subst (λ (s : ShareView). h.answer ≡ Err Spent ↔ is_spent s ≡ true) same_share h.spent;
     memory = λ full. subst (λ (s : ShareView). s.audited ≡ true) same_share (h.memory full);
-    done = subst (λ (s : ShareView). IsDone (circumstances r.openings Gives) h.answer (growth tenant s after.share) given) same_share h.done;
+    done = subst (λ (s : ShareView). IsDone (in_office Gives office) h.answer (growth tenant s after.share) given) same_share h.done;
     metered = subst (λ (s : SeatState). after.seat ≡ tallied tenant (command_kind h.answer) s) same_seat h.metered;
     slot = h.slot ∙ same_slot;
     sent = h.sent ∙ same_sent;

@@ -24,6 +24,7 @@ module _ (So To : Sending → Type 0) (weaker : (s : Sending) → So s → To s)
   went_so under g before after came went = record {
     waiting = went.waiting;
     forwarded = went.forwarded;
+    kept = went.kept;
     sent = exchanged_so g.owner went.waiting after came went.sent;
   }
 
@@ -34,12 +35,22 @@ module _ (So To : Sending → Type 0) (weaker : (s : Sending) → So s → To s)
   carried_so under reply.Stranger g before after is = is
   carried_so under reply.Spent g before after is = is
   carried_so under reply.Memory g before after is = is
+  carried_so under reply.NoRoom g before after is = is
+  carried_so under reply.Unkept g before after is = is
   carried_so under reply.Decided g before after is = is
   carried_so under (reply.Settled got) g before after back = record {
     between = back.between;
     answered = back.answered;
     went = went_so under _ before back.answered got back.went;
     settled = back.settled;
+  }
+  carried_so under (reply.Untold got) g before after untold = record {
+    between = untold.between;
+    answered = untold.answered;
+    went = went_so under _ before untold.answered got untold.went;
+    left = untold.left;
+    settled = untold.settled;
+    cleared = untold.cleared;
   }
   carried_so under (reply.Lost got) g before after lost = record {
     between = lost.between;

@@ -17,11 +17,11 @@ use Rattle.one_list.specs.declared.run.Run.{Ghosts}
 use Rattle.books_shared.specs.Shares.{ShareView, fresh, is_spent}
 use Rattle.floor_core.specs.Work.{loaded}
 use Rattle.floor_core.specs.declared.parts.Got.{Got}
-use Rattle.workers.specs.Carrying.{IsCarried, IsDone, circumstances, growth}
+use Rattle.workers.specs.Carrying.{IsCarried, IsDone, growth}
 use Rattle.workers.specs.Counting.{IsSpent, command_kind, reply_tallied, tallied}
 use Rattle.workers.specs.Replies.{http_code, sends_of, status_of}
 use Rattle.workers.specs.declared.governing.GovernFault.{GovernFault}
-use Rattle.workers.specs.declared.governing.GovernFault.TheVariants.{Spent, Stray, Refused}
+use Rattle.workers.specs.declared.governing.GovernFault.TheVariants.{Spent, NoRoom, Stray, Unkept, Refused}
 use Rattle.workers.specs.declared.governing.GovernFault.TheVariants as govern
 use Rattle.workers.specs.declared.reply.Reply.{Reply}
 use Rattle.workers.specs.declared.reply.Reply.TheVariants.{Nameless, Malformed}
@@ -42,6 +42,7 @@ use Rattle.service.specs.declared.worker.desk.Desk.{Desk}
 use Rattle.service.specs.declared.office.Office.{Office}
 use Rattle.service.specs.declared.worker.Over.{Over}
 use Rattle.service.specs.declared.worker.Over.TheVariants.{Ended, Closed, Yielded}
+use Rattle.service.specs.Journal.{in_office}
 use Rattle.service.specs.Served.{tenant_named}
 use Rattle.service.specs.Rolling.{IsTidied, IsUntouched}
 
@@ -53,9 +54,9 @@ use Rattle.service.specs.Rolling.{IsTidied, IsUntouched}
 --
 -- A malformed token and a frame that is not a Prepare get no further. Nothing does if no more may be counted or sent,
 -- or if an audited run is out of memory for receipts. Books were asked at moments that the clock gave, and steps led
--- to them from the run's openings. If workers answer only packets that they sent on themselves, none is lost: its
+-- to them from the run's openings. Nothing leaves unless what led to it is kept, where a journal is. If workers answer only packets that they sent on themselves, none is lost: its
 -- answer is settled.
-pub record WasCarried {J : Type 0} {r : Ghosts J} (Gives : ℕ → Type 0) (before : Desk J r) (tenant : ℕ) (token frame : List ℕ) (told : Status)
+pub record WasCarried {J : Type 0} {r : Ghosts J} (Gives : ℕ → Type 0) (office : Office J r) (before : Desk J r) (tenant : ℕ) (token frame : List ℕ) (told : Status)
     (after : Desk J r) : Type 0 where
   pub reply : Reply
   pub status : told ≡ status_of reply
@@ -66,7 +67,7 @@ pub record WasCarried {J : Type 0} {r : Ghosts J} (Gives : ℕ → Type 0) (befo
   pub memory : reply ≡ replies.Memory → before.share.audited ≡ true
   pub sure : (got : Got) → r.own ≡ true → reply ≢ replies.Lost got
   pub sent : after.sent ≡ before.sent + sends_of reply
-  pub carried : IsCarried (circumstances r.openings Gives) reply (growth tenant before.share after.share)
+  pub carried : IsCarried (in_office Gives office) reply (growth tenant before.share after.share)
       (loaded before.slot tenant token frame) after.slot (λ sending. Unit {0})
   pub metered : after.seat ≡ reply_tallied tenant reply before.seat
 
@@ -87,7 +88,9 @@ abbrev pub IsCommandAnswer : {J : Type 0} {r : Ghosts J} → Office J r → ℕ 
 IsCommandAnswer office tenant (Ok answered) told printed = IsPrinted office tenant (Ok answered) told printed
 IsCommandAnswer office tenant (Err Spent) told printed = told ≡ status.Unavailable
 IsCommandAnswer office tenant (Err govern.Memory) told printed = told ≡ status.Unavailable
+IsCommandAnswer office tenant (Err NoRoom) told printed = told ≡ status.Unavailable
 IsCommandAnswer office tenant (Err Stray) told printed = told ≡ status.Unavailable
+IsCommandAnswer office tenant (Err Unkept) told printed = told ≡ status.Unavailable
 IsCommandAnswer office tenant (Err (Refused Memory)) told printed = told ≡ status.Unavailable
 IsCommandAnswer office tenant (Err (Refused fault)) told printed = IsPrinted office tenant (Err fault) told printed
 
@@ -102,7 +105,7 @@ pub record WasGoverned {J : Type 0} {r : Ghosts J} (Gives : ℕ → Type 0) (off
   pub answer : Result Answered GovernFault
   pub spent : answer ≡ Err Spent ↔ is_spent before.share ≡ true
   pub memory : answer ≡ Err govern.Memory → before.share.audited ≡ true
-  pub done : IsDone (circumstances r.openings Gives) answer (growth tenant before.share after.share) given
+  pub done : IsDone (in_office Gives office) answer (growth tenant before.share after.share) given
   pub metered : after.seat ≡ tallied tenant (command_kind answer) before.seat
   pub slot : after.slot ≡ before.slot
   pub sent : after.sent ≡ before.sent
@@ -135,7 +138,7 @@ operator_by office shown (Some tenant) = if bytes_eq (operator_token office tena
 -- a packet of a tenant that is there is carried; then the tenant's period is closed if the service closes ripe ones and it is ripe
 abbrev pub WasAskedPacket : {J : Type 0} {r : Ghosts J} → (Gives : ℕ → Type 0) → Bool → Office J r → Asked → Desk J r → Status → Desk J r → Type 0
 WasAskedPacket {J} {r} Gives true office asked before told after =
-    (between : Desk J r) × WasCarried Gives before asked.tenant asked.token asked.body told between
+    (between : Desk J r) × WasCarried Gives office before asked.tenant asked.token asked.body told between
     × IsTidied Gives office.roll_at office between asked.tenant after
 WasAskedPacket Gives false office asked before told after = (told ≡ status.Unavailable) × IsUntouched before after
 

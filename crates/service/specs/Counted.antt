@@ -10,8 +10,8 @@ use Rattle.meters.specs.declared.kind.Kind as meter
 use Rattle.atomic_table.specs.Seated.{TableId}
 use Rattle.one_list.specs.declared.run.Run.{Ghosts}
 use Rattle.books_shared.specs.Shares.{ShareView}
-use Rattle.books_shared.specs.Traced.{HaveListOf, openings_of}
-use Rattle.workers.specs.Carrying.{circumstances}
+use Rattle.books_shared.specs.Traced.{HaveListOf}
+use Rattle.tenant_core.specs.declared.opening.Opening.{Opening}
 use Rattle.admin_text.specs.declared.setup.Setup.{Setup}
 use Rattle.service.specs.declared.worker.desk.Desk.{Desk}
 use Rattle.service.specs.declared.office.Office.{Office}
@@ -20,6 +20,7 @@ use Rattle.service.specs.Answering.{HasWorked, IsOfficeOf}
 use Rattle.service.specs.Auditing.{HaveEnded, IsAudited}
 use Rattle.service.specs.Balances.{balance_lines}
 use Rattle.service.specs.Extents.{closes_at_end, desk_count, worker_count}
+use Rattle.service.specs.Journal.{in_office}
 use Rattle.service.specs.Operating.{HasObeyed}
 use Rattle.service.specs.Served.{lines_upto}
 
@@ -42,23 +43,29 @@ pub record HaveCounted {J : Type 0} {r : Ghosts J} (Gives : ℕ → Type 0) (off
   pub sums : (tenant : ℕ) (kind : meter.Kind) → tenant < office.books.tenants
       → counts tenant kind ≡ sum_by (λ desk. count_of tenant kind desk.seat) (option_to_list door ++ desks)
 
+-- whether a service has a door for operators, and a journal on disk
+pub record Features : Type 0 where
+  pub operators : Bool
+  pub journal : Bool
+
 -- A service of a setup, whose run this is, has written its last lines. If the report has balances, they come first.
 -- Then comes a line for each tenant, of what the workers and who answers operators have counted. If the report has an
 -- audit, what it found comes last. The counts are as the connections that each worker served left them, and the requests of
 -- operators, at moments that the clock gave. Commands came with packets only if the plan says so.
 --
 -- If the last periods are closed, one worker has rolled each tenant. There is one list of all that was done to the
--- tenants' books. Each share has its part of it. It is a run, of some number of workers, from the openings of the setup to
--- the books at the end.
-pub record HasToldCountsIn {J : Type 0} (run : Ghosts J) (Gives : ℕ → Type 0) (setup : Setup) (plan : Plan) (operated : Bool) (old new : Option (List ℕ)) : Type 0 where
+-- tenants' books. Each share has its part of it. It is a run, of some number of workers, from the run's openings to the books at
+-- the end.
+pub record HasToldCountsIn {J : Type 0} (run : Ghosts J) (Gives : ℕ → Type 0) (setup : Setup) (plan : Plan) (has : Features) (old new : Option (List ℕ)) : Type 0 where
   pub office : Office J run
   pub known : IsOfficeOf setup office
   pub admin : office.admin ≡ plan.admin
+  pub journal : is_some office.journal ≡ has.journal
   pub totals : TotalsState
   pub worked : List ShareView
-  pub counted : HaveCounted Gives office (worker_count plan.extent.connections operated) operated worked (λ tenant kind. total_of tenant kind totals)
+  pub counted : HaveCounted Gives office (worker_count plan.extent.connections has.operators) has.operators worked (λ tenant kind. total_of tenant kind totals)
   pub shares : List ShareView
-  pub ended : HaveEnded (circumstances run.openings Gives) (closes_at_end plan) (length setup.tenants) worked shares
+  pub ended : HaveEnded (in_office Gives office) (closes_at_end plan) (length setup.tenants) worked shares
   pub books : List (State × ℕ)
   pub audit : List ℕ
   pub audited : IsAudited plan.report.audit shares audit
@@ -66,18 +73,18 @@ pub record HasToldCountsIn {J : Type 0} (run : Ghosts J) (Gives : ℕ → Type 0
       ++ lines_upto (length setup.tenants) office.names.items totals ++ audit)
   pub one_list : HaveListOf run.size run.openings books shares
 
--- the run of a service of a setup, whose list has that table: each worker answers only packets that it sent on itself
-abbrev pub run_of : TableId → Setup → (workers : ℕ) → Ghosts Brand
-run_of table setup workers = record {
+-- the run of a service with these openings, whose list has that table: each worker answers only packets that it sent on itself
+abbrev pub run_of : TableId → List Opening → (workers : ℕ) → Ghosts Brand
+run_of table openings workers = record {
   table = table;
-  size = record { tenants = length setup.tenants; workers = workers };
-  openings = openings_of setup.tenants setup.start;
+  size = record { tenants = length openings; workers = workers };
+  openings = openings;
   own = true;
 }
 
--- A service of a setup has written its last lines, as HasToldCountsIn says, by some run of that setup: the balances, a
+-- A service of a setup has written its last lines, as HasToldCountsIn says, by some run with these openings: the balances, a
 -- line of counts for each tenant, and what an audit found. All that the workers and operators did is one list, a run of a
--- floor from the setup to the books at the end.
-abbrev pub HasToldCounts : (Gives : ℕ → Type 0) → Setup → Plan → (operated : Bool) → (old new : Option (List ℕ)) → Type 0
-HasToldCounts Gives setup plan operated old new =
-    (table : TableId) × HasToldCountsIn (run_of table setup (desk_count plan.extent.connections operated)) Gives setup plan operated old new
+-- floor from the openings to the books at the end.
+abbrev pub HasToldCounts : (Gives : ℕ → Type 0) → Setup → List Opening → Plan → Features → (old new : Option (List ℕ)) → Type 0
+HasToldCounts Gives setup openings plan has old new =
+    (table : TableId) × HasToldCountsIn (run_of table openings (desk_count plan.extent.connections has.operators)) Gives setup plan has old new

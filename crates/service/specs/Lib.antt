@@ -4,6 +4,7 @@ pub mod Answering
 pub mod Exchanges
 pub mod Lines
 pub mod Hosting
+pub mod Journal
 pub mod Metrics
 pub mod Presence
 pub mod Auditing

@@ -4,6 +4,7 @@
 //!   others.
 //! - `worker`: what one worker does on its thread: it serves connections, carries packets and obeys commands.
 //! - `link`: the way out to the next peers.
+//! - `journal`: what is done to the books, kept on disk before anything of it leaves.
 //! - `filing`: the statements of closed periods: where they are kept, and which could not be written.
 //! - `host`: the host's door: who waits there, and the answers that the host gets.
 //! - `operators`: the operators' door: what an operator may ask about its tenant, its commands, and the answers.
@@ -15,6 +16,7 @@
 mod connection;
 mod filing;
 mod host;
+mod journal;
 mod link;
 mod office;
 mod operators;
@@ -30,6 +32,7 @@ pub use operators::answering::OperatorDoor;
 pub use running::auditing::{audit_told, good_line, word_of};
 pub use running::ending::ServeFault;
 pub use running::files::{can_open, files_of};
+pub use running::opening::Start;
 pub use running::plan::{Extent, Plan, Report};
 pub use running::serving::{Doors, serve};
 pub use worker::answering::without_line_feed;

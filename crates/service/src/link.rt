@@ -155,10 +155,10 @@ impl<H: Wait + Net<Stream = TcpStream> + Clock> Peers for Sockets<'_, H> {
 impl<H: Wait + Clock, C: workers::Clock, P: Peers> PeerLink<'_, H, C, P> {
     // For how many milliseconds an exchange of that packet may last that begins now; `None` if there is no such
     // tenant.
-    fn time_for(&self, packet: Outgoing<'_>) -> Option<u64>
-        ensures known { IsSome result ↔ (packet.entry.tenant < length self.now.terms.now) }
+    fn time_for(&self, packet: &Outgoing<'_>) -> Option<u64>
+        ensures known { IsSome result ↔ (packet.now.tenant < length self.now.terms.now) }
         ensures time { IfSome result (λ time. IsTimeFor (C.gives self.now.clock.now) self.now.terms.now
-            packet.entry.tenant packet.entry.expiry time) }
+            packet.now.tenant packet.now.expiry time) }
     {
         let terms = self.terms.get(packet.tenant)?;
         let now = self.clock.now().millis();
@@ -167,9 +167,9 @@ impl<H: Wait + Clock, C: workers::Clock, P: Peers> PeerLink<'_, H, C, P> {
     }
 
     // Until when an exchange of that packet may last that begins now.
-    fn end_of_exchange(&self, packet: Outgoing<'_>) -> Option<Instant>
+    fn end_of_exchange(&self, packet: &Outgoing<'_>) -> Option<Instant>
         ensures { IfSome result (λ until. IsEndFor (C.gives self.now.clock.now) self.now.terms.now
-            packet.entry.tenant packet.entry.expiry until) }
+            packet.now.tenant packet.now.expiry until) }
     {
         let time = self.time_for(packet)?;
         let begun = Instant::now(self.handle).ok()?;
@@ -184,7 +184,7 @@ impl<H: Wait + Clock, C: workers::Clock, P: Peers> PeerLink<'_, H, C, P> {
             (P.exchanges self.old.peers (sending_of packet.entry result out.new) self.new.peers) }
         ensures sent { self.new.sent ≡ self.old.sent }
     {
-        let Some(until) = self.end_of_exchange(packet) else {
+        let Some(until) = self.end_of_exchange(&packet) else {
             return Got::Fault;
         };
         let (handle, places) = (self.handle, self.places);

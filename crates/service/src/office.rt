@@ -1,17 +1,20 @@
 //! What all workers share.
 
-ghost use Rattle.std.specs.Prelude.{◌≡◌, ◌<◌, vec_len, IfSome};
+ghost use Rattle.std.specs.Prelude.{◌≡◌, ◌<◌, vec_len, IfOk, IfSome};
 ghost use Rattle.service.specs.Served.{tenant_named};
 
 pub mod asked;
 
 use crate::connection::door::Door;
 use crate::filing::Filing;
+use crate::journal::{DiskJournal, Keeper};
 use books_shared::Books;
 use common_types::{Name, Token};
 use ilp_addr::Moment;
 use meters::Meters;
 use one_list::Run;
+use std::alloc::AllocError;
+use std::sync::Wait;
 use std::sync::atomic::{AtomicU64, Ordering};
 use workers::Places;
 
@@ -38,6 +41,8 @@ pub struct Office<J: Run> {
     pub door: Door,
     /// Where the statements of closed periods are kept, if they are.
     pub filing: Option<Filing>,
+    /// The journal on disk of what is done to the books, if one is kept.
+    pub journal: Option<DiskJournal>,
     /// At how many hundredths of its entries a tenant's period is closed by itself, if it is.
     pub roll_at: Option<u8>,
     /// How many commands came for each tenant under a token that is not its operator's.
@@ -52,6 +57,39 @@ pub struct Office<J: Run> {
 }
 
 impl<J: Run> Office<J> {
+    /// Who keeps what is done to the books.
+    pub fn keeper<'a, H>(&'a self, handle: &'a H) -> Keeper<'a, H, J>
+        ensures { result.journal.now ≡ self.now.journal }
+    {
+        Keeper {
+            handle,
+            books: &self.books,
+            journal: &self.journal,
+        }
+    }
+
+    /// Whether nothing more can be kept on disk: the log is full, or the disk has failed.
+    pub fn has_lost_journal(&self) -> bool {
+        match &self.journal {
+            Some(journal) => !journal.has_room(),
+            None => false,
+        }
+    }
+
+    /// That text, once all that it shows is kept. Fails if that can't be kept.
+    pub fn once_kept<'x, H: Wait>(
+        &'x self,
+        handle: &'x H,
+        text: Vec<u8>,
+    ) -> Result<Vec<u8>, AllocError>
+        ensures { IfOk result (λ told. told ≡ text) }
+    {
+        match self.keeper(handle).settle() {
+            Ok(()) => Ok(text),
+            Err(_) => Err(AllocError),
+        }
+    }
+
     /// The number of the tenant of that name.
     pub fn tenant_named(&self, name: &[u8]) -> Option<usize>
         ensures value { result ≡ tenant_named self.now.names.items name.now }

@@ -17,7 +17,8 @@ use crate::worker::desk::Desk;
 use http_link::{Inbox, LinkFault, RequestKind, Served, Service, serve_next};
 use one_list::Run;
 use std::alloc::Global;
-use std::net::{Net, TcpListener, TcpStream};
+use std::net::{Net, Shutdown, TcpListener, TcpStream};
+use std::os::fd::OwnedFd;
 use std::sync::Wait;
 use std::thread;
 use std::thread::Threads;
@@ -131,17 +132,26 @@ impl<H: Wait + Net<Stream = TcpStream> + std::time::Clock, C: Clock, J: Run> Ser
         let system = self.system();
         self.status = self.desk.carry(&system, office, job).code();
         self.desk.tidy(&system, office, tenant);
+        self.end_without_journal();
         self.status
     }
 
     fn admin(&mut self, tenant: usize, token: &[u8], body: &[u8]) -> u16 {
         self.desk.told = RequestKind::Admin;
         self.status = self.ordered(tenant, token, body).code();
+        self.end_without_journal();
         self.status
     }
 
     fn body(&self) -> &[u8] {
         self.desk.told()
+    }
+}
+
+// Refuses all who connect to a listener from now on, and wakes the threads that wait for them, if the system lets it.
+fn shut(listener: &TcpListener) {
+    if let Ok(listener) = listener.try_clone() {
+        let _ = TcpStream::from(OwnedFd::from(listener)).shutdown(Shutdown::Both);
     }
 }
 
@@ -177,6 +187,15 @@ impl<H: Wait + Net<Stream = TcpStream> + std::time::Clock, C: Clock, J: Run> Wor
                 status
             }
             Err(_) => Status::Malformed,
+        }
+    }
+
+    // Ends the service once its journal can't be written any more: nobody is let in, and those who wait for a connection are woken.
+    fn end_without_journal(&self) {
+        let door = &self.office.door;
+        if self.office.has_lost_journal() && !door.is_closed() {
+            door.close(self.handle);
+            shut(self.listener);
         }
     }
 
@@ -258,7 +277,7 @@ impl<H: Wait + Net<Stream = TcpStream> + std::time::Clock, C: Clock, J: Run> Wor
 
     // Whether a connection that came then ends after the answer that it just had.
     fn gives_way(&self, came: Option<Instant>) -> bool {
-        let rush = self.office.door.rush();
+        let rush = self.office.door.rush(self.handle);
         rush == Rush::Crowded && yields(rush, self.status, self.served_since(came))
     }
 
@@ -335,9 +354,9 @@ impl<
             let Some(stream) = self.next_connection() else {
                 return;
             };
-            self.office.door.connection_begins();
+            self.office.door.connection_begins(self.handle);
             let spoke = self.serve_connection(&stream, &mut inbox);
-            self.office.door.connection_ends();
+            self.office.door.connection_ends(self.handle);
             if !spoke {
                 self.office.door.give_back();
             }

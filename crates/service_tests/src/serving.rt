@@ -14,9 +14,10 @@ mod patience;
 mod periods;
 pub mod wire;
 
-use admin_text::read_setup;
-use service::{Disk, Doors, Extent, Plan, Report, ServeFault, serve};
-use std::alloc::Global;
+use admin_text::{Setup, read_setup};
+use books_shared::are_numbered;
+use service::{Disk, Doors, Extent, Plan, Report, ServeFault, Start, serve};
+use std::alloc::{AllocError, Global};
 use std::io::{Read, Write};
 use std::net::{Net, OpenListener, Shutdown, SocketAddr, TcpListener, TcpStream};
 use std::process::Abort;
@@ -25,6 +26,7 @@ use std::test::Fail;
 use std::thread::{Threads, join};
 use std::time::{Clock, Duration};
 use std::{io, thread};
+use tenant_core::Opening;
 use wire::{
     FixedClock, good_reply, good_text, is_reply, is_text, one_tenant, packet_by, peer_answer,
     posted, request,
@@ -68,6 +70,15 @@ fn asked(
     answer_of(alloc, &stream)
 }
 
+// What each tenant of a setup begins with.
+fn openings_of(alloc: Global, setup: &Setup) -> Result<Vec<Opening>, AllocError> {
+    let mut openings = Vec::new(alloc);
+    for (number, tenant) in setup.tenants.as_slice().iter().enumerate() {
+        openings.push(Opening::first(alloc, number, tenant, setup.start)?)?;
+    }
+    Ok(openings)
+}
+
 // Serves the setup of that text.
 fn serve_as<R>(
     rt: &R,
@@ -87,10 +98,20 @@ where
     let Ok(setup) = read_setup(rt.alloc(), text.as_bytes()) else {
         return Err(ServeFault::Device);
     };
+    let openings = openings_of(rt.alloc(), &setup)?;
+    let tenants = setup.tenants.as_slice().len();
+    if openings.len() != tenants || !are_numbered(openings.as_slice()) {
+        return Err(ServeFault::Device);
+    }
+    let start = Start {
+        setup: &setup,
+        openings: openings.as_slice(),
+        journal: None,
+    };
     serve(
         rt,
         rt.alloc(),
-        &setup,
+        start,
         Plan {
             extent,
             report,

@@ -1,3 +1,4 @@
 pub mod AllKept
 pub mod LogKept
+pub mod Openings
 pub mod Zeros

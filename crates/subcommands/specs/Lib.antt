@@ -6,3 +6,4 @@ pub mod Verifying
 pub mod Filing
 pub mod Auditing
 pub mod Journalling
+pub mod Beginning

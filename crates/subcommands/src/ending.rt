@@ -27,6 +27,12 @@ pub enum JournalEnding {
     Missing,
     #[error("journal: {0}")]
     Commit(CommitFault),
+    /// The tenants of a base are not those of a service.
+    #[error("journal: its tenants are not 1 to 64 that are numbered from 0")]
+    Tenants,
+    /// The tenant of that number can't go on: its running period is the last one.
+    #[error("journal: tenant {0}: no period follows the one that was running")]
+    Last(usize),
 }
 
 impl From<AllocError> for JournalEnding {
@@ -67,6 +73,8 @@ pub enum Ending {
     Audit,
     /// A journal is not kept, or can't be read.
     Journal(JournalEnding),
+    /// The setup is not the one that a service's journal began with, as a line has said.
+    SetupDiffers,
 }
 
 impl Ending {
@@ -75,6 +83,11 @@ impl Ending {
         ensures { result ≡ Ending.Journal why }
     {
         Ending::Journal(why)
+    }
+
+    /// How a run ends that can't use the folder of a journal.
+    pub fn of_folder(fault: FolderFault) -> Ending {
+        Ending::of_journal(fault.into())
     }
 }
 
@@ -104,6 +117,7 @@ pub fn exit_status(ended: &Result<(), Ending>) -> u8
     match ended {
         Ok(()) => 0,
         Err(Ending::Usage(_) | Ending::NoToken) => 2,
+        Err(Ending::SetupDiffers) => 3,
         Err(Ending::NotGood) => 4,
         Err(Ending::Fault(fault)) => fault.status(),
         Err(Ending::Served(ServeFault::Memory) | Ending::Journal(JournalEnding::Memory)) => 1,

@@ -1,4 +1,4 @@
-//! The folder that statements are kept in: each start needs one without any.
+//! The folder that statements are kept in: each start needs one without any, unless it goes on with a journal.
 
 use crate::checking::ending_of;
 use crate::ending::Ending;
@@ -18,6 +18,19 @@ enum FolderFault {
     Wrong(&'static str),
 }
 
+// What is there by that path, if it is a folder.
+fn folder_at<'a, R: Files + AllocGlobal>(
+    rt: &'a R,
+    path: &'a str,
+) -> Result<Folder<'a, R>, FolderFault> {
+    let found = fs::metadata(rt, path).map_err(FolderFault::Unseen)?;
+    if found.is_dir() {
+        Ok(Folder::new(rt, rt.alloc(), path))
+    } else {
+        Err(FolderFault::Wrong("not a folder"))
+    }
+}
+
 // Checks that the folder of the statements is a folder, and has no statement of these tenants yet; and no receipts, if
 // they are kept there too.
 fn check_folder(
@@ -26,12 +39,7 @@ fn check_folder(
     setup: &Setup,
     has_receipts: bool,
 ) -> Result<(), FolderFault> {
-    let found = fs::metadata(rt, path).map_err(FolderFault::Unseen)?;
-    if !found.is_dir() {
-        return Err(FolderFault::Wrong("not a folder"));
-    }
-    let folder = Folder::new(rt, rt.alloc(), path);
-    let names = folder.names().map_err(FolderFault::Unseen)?;
+    let names = folder_at(rt, path)?.names().map_err(FolderFault::Unseen)?;
     for name in names.as_slice().split(|byte| *byte == 0) {
         if is_statement(setup, name) {
             return Err(FolderFault::Wrong(
@@ -78,14 +86,30 @@ pub fn expect_folder(
     setup: &Setup,
     has_receipts: bool,
 ) -> Result<(), Ending> {
-    let doing = "keep statements in";
     match check_folder(rt, path, setup, has_receipts) {
         Ok(()) => Ok(()),
-        Err(FolderFault::Unseen(error)) => Err(cannot(rt, doing, path, &error)),
-        Err(FolderFault::Wrong(why)) => {
+        Err(fault) => Err(refused(rt, path, &fault)),
+    }
+}
+
+// Says in a line on standard output why no statements are kept in a folder, and returns how the run ends.
+fn refused(rt: &impl Print, path: &str, fault: &FolderFault) -> Ending {
+    let doing = "keep statements in";
+    match fault {
+        FolderFault::Unseen(error) => cannot(rt, doing, path, error),
+        FolderFault::Wrong(why) => {
             say_cannot(rt, doing, path, why);
-            Err(Ending::Fault(ReplayFault::Device))
+            Ending::Fault(ReplayFault::Device)
         }
+    }
+}
+
+/// Checks that a service that goes on with its journal can keep statements in that folder. It may have those of earlier periods:
+/// the numbers of periods go on. A line on standard output says why not.
+pub fn expect_going_on(rt: &(impl Files + Print + AllocGlobal), path: &str) -> Result<(), Ending> {
+    match folder_at(rt, path) {
+        Ok(_) => Ok(()),
+        Err(fault) => Err(refused(rt, path, &fault)),
     }
 }
 

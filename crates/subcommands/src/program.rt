@@ -101,7 +101,11 @@ fn say_ending(rt: &impl Eprint, ended: &Result<(), Ending>) {
     match ended {
         Ok(())
         | Err(
-            Ending::Served(ServeFault::Audit) | Ending::NoToken | Ending::NotGood | Ending::Audit,
+            Ending::Served(ServeFault::Audit)
+            | Ending::NoToken
+            | Ending::NotGood
+            | Ending::Audit
+            | Ending::SetupDiffers,
         ) => {}
         Err(Ending::Usage(error)) => {
             let _ = rt.eprint(error);

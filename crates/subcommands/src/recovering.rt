@@ -31,24 +31,45 @@ use std::io::Write;
 use std::time::Clock;
 use tenant_core::{Book, Command, Fate, Hold, Period, TenantSetup};
 
-/// What the newest pair of a journal's folder has, and the pair's number.
+/// The texts of a pair of files, its number, and the folder that it is in.
+#[derive(Clone, Copy)]
+pub struct Pair<'a> {
+    pub path: &'a str,
+    pub number: u64,
+    pub base: &'a [u8],
+    pub log: &'a [u8],
+}
+
+// What the newest pair of a journal's folder has, and the pair's number.
 #[derive(Drop)]
-struct Pair {
+struct NewestPair {
     number: u64,
     texts: Texts,
+}
+
+impl NewestPair {
+    // The pair, in that folder.
+    fn within<'a>(&'a self, path: &'a str) -> Pair<'a> {
+        Pair {
+            path,
+            number: self.number,
+            base: &self.texts.base,
+            log: &self.texts.log,
+        }
+    }
 }
 
 fn newest_pair<R: Files<File = File>>(
     files: &R,
     alloc: Global,
     path: &str,
-) -> Result<Pair, JournalEnding> {
+) -> Result<NewestPair, JournalEnding> {
     let folder = ReadOnlyFolder::open(files, alloc, path)?;
     let Some(number) = folder.newest() else {
         return Err(JournalEnding::Missing);
     };
     let texts = folder.read(number)?;
-    Ok(Pair { number, texts })
+    Ok(NewestPair { number, texts })
 }
 
 /// The books of a base, after the whole lines that a crash has left of a log.
@@ -94,21 +115,25 @@ fn fault_words(
     }
 }
 
-// The books of a pair. If it is damaged, a line says where.
-fn books_of<W: Write>(
-    alloc: Global,
-    path: &str,
-    pair: &Pair,
-    writer: &mut W,
-) -> Result<Reopened, Ending> {
-    match reopened(alloc, &pair.texts.base, &pair.texts.log) {
+// Writes where a pair is damaged, and says how the run ends.
+fn damaged<W: Write>(alloc: Global, pair: Pair<'_>, fault: JournalFault, writer: &mut W) -> Ending {
+    match fault_words(alloc, pair.path, pair.number, fault) {
+        Ok(words) => match writer.write_all(words.as_bytes()) {
+            Ok(()) => Ending::NotGood,
+            Err(error) => printing(error),
+        },
+        Err(error) => memory_refused(error),
+    }
+}
+
+/// The books of a pair. If it is damaged, a line says where.
+pub fn books_of<W: Write>(alloc: Global, pair: Pair<'_>, writer: &mut W) -> Result<Reopened, Ending>
+    ensures { IfOk result (λ r. AreReopened pair.entry.base.now (lines (recovered pair.entry.log.now)) r.books.items) }
+{
+    match reopened(alloc, pair.base, pair.log) {
         Ok(reopened) => Ok(reopened),
         Err(ReadError::Memory) => Err(Ending::Fault(ReplayFault::Memory)),
-        Err(ReadError::Fault(fault)) => {
-            let words = fault_words(alloc, path, pair.number, fault).map_err(memory_refused)?;
-            writer.write_all(words.as_bytes()).map_err(printing)?;
-            Err(Ending::NotGood)
-        }
+        Err(ReadError::Fault(fault)) => Err(damaged(alloc, pair, fault, writer)),
     }
 }
 
@@ -128,7 +153,7 @@ pub fn verify_journal_at<R: Files<File = File> + Print + AllocGlobal>(
     let alloc = rt.alloc();
     let mut writer = io::writer(rt);
     let pair = newest_pair(rt, alloc, path).map_err(Ending::of_journal)?;
-    let found = books_of(alloc, path, &pair, &mut writer)?;
+    let found = books_of(alloc, pair.within(path), &mut writer)?;
     let tenants = found.books.len();
     let records = count_records(&pair.texts.log);
     let words = format!(in alloc; "good {tenants} {records}\n").map_err(memory_refused)?;
@@ -275,7 +300,7 @@ pub fn recover_at<R: Files<File = File> + Disk + Clock + Print + AllocGlobal>(
     let now = workers::Clock::now(&SystemClock::new(rt));
     let mut writer = io::writer(rt);
     let pair = newest_pair(rt, alloc, recovery.journal).map_err(Ending::of_journal)?;
-    let mut found = books_of(alloc, recovery.journal, &pair, &mut writer)?;
+    let mut found = books_of(alloc, pair.within(recovery.journal), &mut writer)?;
     let names = names_of(alloc, &found).map_err(memory_refused)?;
     let mut told = Told {
         out: Vec::new(alloc),

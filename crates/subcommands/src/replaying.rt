@@ -10,7 +10,7 @@ use crate::filing::{Filer, replay_filing};
 use crate::folder::expect_free_folder;
 use crate::journalling::{Journalist, NoPeriods, begin_journal, replay_journalled};
 use admin_text::Setup;
-use log_folder::{DiskFile, FolderFault, LogFolder};
+use log_folder::{DiskFile, LogFolder};
 use oer_core::Counted;
 use replay_text::{PeriodKeeper, replay};
 use service::{Disk, Folder};
@@ -36,11 +36,6 @@ fn replay_into(
     replay_filing(alloc, setup, workers, &mut reader, &mut filer, &mut writer).map_err(
         Ending::Fault,
     )
-}
-
-// How a run ends that can't use the folder of a journal.
-fn folder_refused(fault: FolderFault) -> Ending {
-    Ending::of_journal(fault.into())
 }
 
 // Replays the script on standard input, and keeps each record in a journal before anything of its step is printed.
@@ -80,7 +75,7 @@ fn replay_journal<R: Files<File = File> + Disk + Input + Print + AllocGlobal>(
     if let Some(statements) = statements {
         expect_free_folder(rt, statements, &setup)?;
     }
-    let mut folder = LogFolder::open(rt, alloc, path).map_err(folder_refused)?;
+    let mut folder = LogFolder::open(rt, alloc, path).map_err(Ending::of_folder)?;
     let journal = begin_journal(&mut folder, alloc, &setup).map_err(Ending::of_journal)?;
     let Some(statements) = statements else {
         return replay_with(

@@ -15,6 +15,7 @@ use Rattle.books_shared.specs.Shares.{ShareView}
 use Rattle.books_shared.specs.Traced.{IsLedTo}
 use Rattle.books_shared.specs.Turns.{IsSentBy}
 use Rattle.workers.specs.Carrying.{Circumstances, HasSentOn, IsOwnCall, WasCalled, growth}
+use Rattle.workers.specs.declared.keeping.JournalPlace.{JournalPlace}
 use Rattle.workers.proofs.Elsewhere.{answer_turn, goes_on}
 
 -- the worker's steps of the tenant are the tenant's by the worker, the last of which sent the packet on
@@ -47,9 +48,9 @@ settles laws w share tenant openings s steps now came waits of sent own shared l
         (laws.awaited led.first steps sent.before sent.step s hold led.history answers (mine sent steps s.opening.tenant own shared) sent.begins)
 
 -- a packet that was sent on is the last that the worker did for the tenant
-pub is_own_call : {under : Circumstances} (t peer hold : ℕ) (before waiting : Work) (after : ShareView) (roomy : ShareView) (job : Job) → WasCalled under (growth t roomy after) (decide_call before) (turns.Send peer hold) waiting
+pub is_own_call : {under : Circumstances} (t peer hold : ℕ) (before waiting : Work) (after : ShareView) (roomy : ShareView) (job : Job) (place : JournalPlace) → WasCalled under (growth t roomy after) (decide_call before) (turns.Send peer hold) waiting place
     → job ≡ waiting.job → IsOwnCall after t job
-is_own_call t peer hold before waiting after roomy job called same =
+is_own_call t peer hold before waiting after roomy job place called same =
     let s : State = called.found.book in
     let on = goes_on before s called.found.now peer hold called.told in
     let e : Done = done roomy.worker (next_place s) on.verdict in

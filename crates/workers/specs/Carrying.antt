@@ -2,7 +2,7 @@
 use Rattle.std.specs.Prelude.{ℕ, ◌≡◌, List, [], ◌∷◌, ◌++◌, Option, Some, Result, Ok, Err}
 use Rattle.tenant_core.specs.Governed.{IsGoverned, made_by}
 use Rattle.tenant_core.specs.Sound.{IsSound}
-use Rattle.tenant_core.specs.State.{State}
+use Rattle.tenant_core.specs.State.{State, recorded}
 use Rattle.tenant_core.specs.declared.command.Answered.{Answered}
 use Rattle.tenant_core.specs.declared.command.Command.{Command}
 use Rattle.tenant_core.specs.declared.faults.CommandFault.{CommandFault}
@@ -19,21 +19,26 @@ use Rattle.books_shared.specs.Rises.{command_rise, rise_of}
 use Rattle.books_shared.specs.Shares.{ShareView, share_met}
 use Rattle.books_shared.specs.Traced.{IsLedTo, share_counted}
 use Rattle.books_shared.specs.declared.rise.CallCounts.{CallCounts}
+use Rattle.workers.specs.Keeping.{place_after}
 use Rattle.workers.specs.Replies.{Sending}
 use Rattle.workers.specs.declared.governing.GovernFault.{GovernFault}
-use Rattle.workers.specs.declared.governing.GovernFault.TheVariants.{Spent, Memory, Stray, Refused}
+use Rattle.workers.specs.declared.governing.GovernFault.TheVariants.{Spent, Memory, NoRoom, Stray, Unkept, Refused}
+use Rattle.workers.specs.declared.keeping.JournalPlace.{JournalPlace}
 use Rattle.workers.specs.declared.reply.Reply.{Reply}
 use Rattle.workers.specs.declared.reply.Reply.TheVariants as reply
 
 -- ---- books under their locks
 
--- under what books are found: with these openings the tenants' first periods began, and such moments the clock may give
+-- Under what books are found: with these openings the tenants' first periods began, and such moments the clock may give.
+-- And what became of what was done to them: that all records of a tenant before a place are kept, or that keeping them may fail
 pub record Circumstances : Type 1 where
   pub openings : List Opening
   pub Gives : ℕ → Type 0
+  pub Keeps : JournalPlace → Type 0
+  pub Fails : Type 0
 
-abbrev pub circumstances : List Opening → (ℕ → Type 0) → Circumstances
-circumstances openings Gives = record { openings = openings; Gives = Gives }
+abbrev pub circumstances : List Opening → (ℕ → Type 0) → (JournalPlace → Type 0) → Type 0 → Circumstances
+circumstances openings Gives Keeps Fails = record { openings = openings; Gives = Gives; Keeps = Keeps; Fails = Fails }
 
 -- A book as it was found under a lock: the replay of its journal, and within its limits. The tenant's steps until
 -- then, over all its periods, led to it from the tenant's first opening. `HasOwnSteps` says which of them are the
@@ -97,21 +102,35 @@ upto between g = record g { after = between }
 abbrev pub from : ShareView → Growth → Growth
 from between g = record g { before = between }
 
--- a call of the slot with the tenant's book, as it was found: its turn, the slot after it, and the share that has
--- grown by it
-pub record WasCalled (under : Circumstances) (g : Growth) (call : State → ℕ → Called) (turn : Turn) (after : Work) : Type 0 where
+-- a call of the slot with the tenant's book, as it was found: its turn, the slot after it, the share that has grown by it,
+-- and the place after the book's records
+pub record WasCalled (under : Circumstances) (g : Growth) (call : State → ℕ → Called) (turn : Turn) (after : Work) (place : JournalPlace) : Type 0 where
   pub found : Found under
   pub own : IsOf g.owner found
   pub mine : HasOwnSteps g found
   pub told : (call found.book found.now).turn ≡ turn
   pub left : after ≡ (call found.book found.now).work
   pub grew : HasGrown found (rise_of (call found.book found.now)) (call found.book found.now).made g
+  pub at : place ≡ place_after (recorded found.book (call found.book found.now).made)
+
+-- such a call, with all that was done to the book until then kept, by the call too
+pub record WasKept (under : Circumstances) (g : Growth) (call : State → ℕ → Called) (turn : Turn) (after : Work) : Type 0 where
+  pub place : JournalPlace
+  pub called : WasCalled under g call turn after place
+  pub kept : under.Keeps place
+
+-- such a call, of which it is not known whether it is kept
+pub record WasUnkept (under : Circumstances) (g : Growth) (call : State → ℕ → Called) (turn : Turn) (after : Work) : Type 0 where
+  pub place : JournalPlace
+  pub called : WasCalled under g call turn after place
+  pub failed : under.Fails
 
 -- the tenant's book held the packet of the slot, to send it on to a peer; the step of that record begins the hold
 pub record WasForwarded (under : Circumstances) (g : Growth) (before after : Work) : Type 0 where
   pub peer : ℕ
   pub hold : ℕ
-  pub decided : WasCalled under g (decide_call before) (turn.Send peer hold) after
+  pub place : JournalPlace
+  pub decided : WasCalled under g (decide_call before) (turn.Send peer hold) after place
   pub step : Done
   pub made : done_by g.before.worker (next_place decided.found.book) (decide_call before decided.found.book decided.found.now).made ≡ step ∷ []
   pub begins : BeginsHold hold step
@@ -130,10 +149,12 @@ pub record WasExchanged (owner : ℕ) (before : Work) (came : Got) (after : Work
   pub so : So sending
   pub left : after ≡ record before { room = sending.room }
 
--- the packet of the slot went on: the tenant's book forwarded it, and what that left in the slot was sent, to the slot's target
+-- the packet of the slot went on: the tenant's book forwarded it, which is kept, and what that left in the slot was sent, to the
+-- slot's target
 pub record WentOn (under : Circumstances) (g : Growth) (before : Work) (came : Got) (after : Work) (So : Sending → Type 0) : Type 0 where
   pub waiting : Work
   pub forwarded : WasForwarded under g before waiting
+  pub kept : under.Keeps forwarded.place
   pub sent : WasExchanged g.owner waiting came after So
 
 -- ---- an answer
@@ -165,12 +186,28 @@ pub record WasMissed (under : Circumstances) (g : Growth) (before : Work) (came 
 
 -- ---- a packet
 
--- the packet went on, and what came back was settled
+-- nothing of the packet left, and its book's verdict is not known to be kept
+pub record WasHeldBack (under : Circumstances) (g : Growth) (before after : Work) : Type 0 where
+  pub told : Turn
+  pub left : Work
+  pub decided : WasUnkept under g (decide_call before) told left
+  pub cleared : after ≡ carrying Job.NoJob left.room
+
+-- the packet went on, and what came back was settled, which is kept
 pub record CameBack (under : Circumstances) (g : Growth) (before : Work) (came : Got) (after : Work) (So : Sending → Type 0) : Type 0 where
   pub between : ShareView
   pub answered : Work
   pub went : WentOn under (upto between g) before came answered So
-  pub settled : WasCalled under (from between g) (answer_with answered came) turn.Reply after
+  pub settled : WasKept under (from between g) (answer_with answered came) turn.Reply after
+
+-- the packet went on, and what came back was settled, which is not known to be kept
+pub record WasUntold (under : Circumstances) (g : Growth) (before : Work) (came : Got) (after : Work) (So : Sending → Type 0) : Type 0 where
+  pub between : ShareView
+  pub answered : Work
+  pub went : WentOn under (upto between g) before came answered So
+  pub left : Work
+  pub settled : WasUnkept under (from between g) (answer_with answered came) turn.Reply left
+  pub cleared : after ≡ carrying Job.NoJob left.room
 
 -- the packet went on, and its answer was not awaited any longer: since the step by which it went on, another worker
 -- answered its hold
@@ -187,30 +224,36 @@ pub record WasLost (under : Circumstances) (g : Growth) (before : Work) (came : 
 abbrev pub IsCarried : (under : Circumstances) → Reply → Growth → (before after : Work) → (So : Sending → Type 0) → Type 0
 IsCarried under reply.Malformed g before after So = (after ≡ before) × IsSame g
 IsCarried under reply.Nameless g before after So = (after ≡ before) × IsSame g
-IsCarried under reply.Stranger g before after So = WasCalled under g (decide_call before) turn.Stranger after
+IsCarried under reply.Stranger g before after So = WasKept under g (decide_call before) turn.Stranger after
 IsCarried under reply.Spent g before after So = (after ≡ carrying Job.NoJob before.room) × IsSame g
 IsCarried under reply.Memory g before after So = (after ≡ carrying Job.NoJob before.room) × IsSame g
-IsCarried under reply.Decided g before after So = WasCalled under g (decide_call before) turn.Reply after
+IsCarried under reply.NoRoom g before after So = under.Fails × (after ≡ carrying Job.NoJob before.room) × IsSame g
+IsCarried under reply.Unkept g before after So = WasHeldBack under g before after
+IsCarried under reply.Decided g before after So = WasKept under g (decide_call before) turn.Reply after
 IsCarried under (reply.Settled got) g before after So = CameBack under g before got after So
+IsCarried under (reply.Untold got) g before after So = WasUntold under g before got after So
 IsCarried under (reply.Lost got) g before after So = WasLost under g before got after So
 
 -- ---- steps of a packet, by their turns
 
 -- what became of a packet at a decide, by its turn: the book is the tenant's, so there is an answer
-abbrev pub IsDecided : (under : Circumstances) → Turn → Growth → (before after : Work) → Type 0
-IsDecided under turn.Idle g before after = ⊥
-IsDecided under turn.Stray g before after = ⊥
-IsDecided under told g before after = WasCalled under g (decide_call before) told after
+abbrev pub IsDecided : (under : Circumstances) → Turn → Growth → (before after : Work) → JournalPlace → Type 0
+IsDecided under turn.Idle g before after place = ⊥
+IsDecided under turn.Stray g before after place = ⊥
+IsDecided under told g before after place = WasCalled under g (decide_call before) told after place
 
 -- what became of a packet at an answer, by its turn
-abbrev pub IsAnswered : (under : Circumstances) → Turn → Growth → Got → (before after : Work) → Type 0
-IsAnswered under turn.Reply g came before after = WasCalled under g (answer_with before came) turn.Reply after
-IsAnswered under _ g came before after = WasMissed under g before came × (after ≡ before)
+abbrev pub IsAnswered : (under : Circumstances) → Turn → Growth → Got → (before after : Work) → JournalPlace → Type 0
+IsAnswered under turn.Reply g came before after place = WasCalled under g (answer_with before came) turn.Reply after place
+IsAnswered under _ g came before after place = WasMissed under g before came × (after ≡ before)
 
 -- the slot at the end: if the answer is unavailable (503), the call is dropped
 abbrev pub slot_closed : Reply → Work → Work
 slot_closed reply.Spent left = carrying Job.NoJob left.room
 slot_closed reply.Memory left = carrying Job.NoJob left.room
+slot_closed reply.NoRoom left = carrying Job.NoJob left.room
+slot_closed reply.Unkept left = carrying Job.NoJob left.room
+slot_closed (reply.Untold got) left = carrying Job.NoJob left.room
 slot_closed (reply.Lost got) left = carrying Job.NoJob left.room
 slot_closed _ left = left
 
@@ -225,10 +268,23 @@ pub record WasCommanded (under : Circumstances) (g : Growth) (given : Command) (
   pub governed : IsGoverned answer given found.book after found.now
   pub grew : HasGrown found (command_rise answer) (made_by answer found.book given found.now) g
 
+-- such a command, with all that was done to the book until then kept, by the command too
+pub record WasDone (under : Circumstances) (g : Growth) (given : Command) (answer : Result Answered CommandFault) : Type 0 where
+  pub commanded : WasCommanded under g given answer
+  pub kept : under.Keeps (place_after commanded.after)
+
+-- such a command, of which it is not known whether it is kept
+pub record WasDoneUntold (under : Circumstances) (g : Growth) (given : Command) : Type 0 where
+  pub answer : Result Answered CommandFault
+  pub commanded : WasCommanded under g given answer
+  pub failed : under.Fails
+
 -- what became of a command, by its answer: `Stray` is never answered
 abbrev pub IsDone : (under : Circumstances) → Result Answered GovernFault → Growth → Command → Type 0
-IsDone under (Ok answered) g given = WasCommanded under g given (Ok answered)
+IsDone under (Ok answered) g given = WasDone under g given (Ok answered)
 IsDone under (Err Spent) g given = IsSame g
 IsDone under (Err Memory) g given = IsSame g
+IsDone under (Err NoRoom) g given = under.Fails × IsSame g
 IsDone under (Err Stray) g given = ⊥
-IsDone under (Err (Refused fault)) g given = WasCommanded under g given (Err fault)
+IsDone under (Err Unkept) g given = WasDoneUntold under g given
+IsDone under (Err (Refused fault)) g given = WasDone under g given (Err fault)

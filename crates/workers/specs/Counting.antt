@@ -24,7 +24,9 @@ abbrev pub IsRoomMade : Result (Unit {0}) GovernFault → (before after : ShareV
 IsRoomMade (Ok made) before after = (is_spent before ≡ false) × (after ≡ record before { room = 2 })
 IsRoomMade (Err govern.Spent) before after = (is_spent before ≡ true) × (after ≡ before)
 IsRoomMade (Err govern.Memory) before after = (is_spent before ≡ false) × (before.audited ≡ true) × (after ≡ before)
+IsRoomMade (Err govern.NoRoom) before after = ⊥
 IsRoomMade (Err govern.Stray) before after = ⊥
+IsRoomMade (Err govern.Unkept) before after = ⊥
 IsRoomMade (Err (govern.Refused fault)) before after = ⊥
 
 -- ---- a seat of the meters
@@ -48,6 +50,8 @@ abbrev pub command_kind : Result Answered GovernFault → Kind
 command_kind (Ok answered) = kind.Answered
 command_kind (Err govern.Spent) = kind.Unavailable
 command_kind (Err govern.Memory) = kind.Unavailable
+command_kind (Err govern.NoRoom) = kind.Unavailable
 command_kind (Err govern.Stray) = kind.Unavailable
+command_kind (Err govern.Unkept) = kind.Unavailable
 command_kind (Err (govern.Refused Memory)) = kind.Unavailable
 command_kind (Err (govern.Refused fault)) = kind.Answered

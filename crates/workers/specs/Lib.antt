@@ -1,5 +1,6 @@
 pub mod Replies
 pub mod Counting
+pub mod Keeping
 pub mod Carrying
 pub mod Rolling
 pub mod PlaceCounts

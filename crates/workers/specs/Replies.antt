@@ -6,7 +6,7 @@ use Rattle.meters.specs.declared.kind.Kind.TheVariants as kind
 use Rattle.floor_core.specs.Work.{Job}
 use Rattle.floor_core.specs.declared.parts.Got.{Got}
 use Rattle.workers.specs.declared.reply.Reply.{Reply}
-use Rattle.workers.specs.declared.reply.Reply.TheVariants.{Malformed, Nameless, Stranger, Spent, Memory, Decided, Settled, Lost}
+use Rattle.workers.specs.declared.reply.Reply.TheVariants.{Malformed, Nameless, Stranger, Spent, Memory, NoRoom, Unkept, Decided, Settled, Untold, Lost}
 use Rattle.workers.specs.declared.reply.Status.{Status}
 use Rattle.workers.specs.declared.reply.Status.TheVariants as status
 
@@ -31,19 +31,24 @@ status_of Nameless = status.Unauthorized
 status_of Stranger = status.Unauthorized
 status_of Spent = status.Unavailable
 status_of Memory = status.Unavailable
+status_of NoRoom = status.Unavailable
+status_of Unkept = status.Unavailable
 status_of Decided = status.Answered
 status_of (Settled got) = status.Answered
+status_of (Untold got) = status.Unavailable
 status_of (Lost got) = status.Unavailable
 
 -- what came back, if the packet was sent on
 abbrev pub got_of : Reply → Option Got
 got_of (Settled got) = Some got
+got_of (Untold got) = Some got
 got_of (Lost got) = Some got
 got_of _ = None
 
 -- how often it was sent on
 abbrev pub sends_of : Reply → ℕ
 sends_of (Settled got) = 1
+sends_of (Untold got) = 1
 sends_of (Lost got) = 1
 sends_of _ = 0
 
@@ -66,6 +71,7 @@ pub record WasSent (came : Got) (sender : ℕ) (So : Sending → Type 0) : Type 
 -- the packet was sent once, or the link is as it was
 abbrev pub IsSentSo : Reply → ℕ → (Sending → Type 0) → Type 0 → Type 0
 IsSentSo (Settled got) tenant So Same = WasSent got tenant So
+IsSentSo (Untold got) tenant So Same = WasSent got tenant So
 IsSentSo (Lost got) tenant So Same = WasSent got tenant So
 IsSentSo _ tenant So Same = Same
 
@@ -73,6 +79,9 @@ IsSentSo _ tenant So Same = Same
 abbrev pub IsCallOver : Reply → Job → Type 0
 IsCallOver Spent job = Unit {0}
 IsCallOver Memory job = Unit {0}
+IsCallOver NoRoom job = Unit {0}
+IsCallOver Unkept job = Unit {0}
+IsCallOver (Untold got) job = Unit {0}
 IsCallOver (Lost got) job = Unit {0}
 IsCallOver _ job = job ≡ Job.NoJob
 

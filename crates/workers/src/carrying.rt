@@ -12,14 +12,14 @@ ghost use Rattle.workers.specs.Counting.{IsSpent, reply_tallied, tallied};
 ghost use Rattle.workers.specs.Replies.{IsOfPrepare, IsCallOver, IsSentSo, WasSent, sends_of};
 ghost use Rattle.workers.specs.declared.reply.Reply.TheVariants as reply;
 
+use crate::keeping::{Durable, JournalPlace, Keeping, place_after, wait_for};
 use crate::reply::{Reply, Status};
 use crate::tools::Tools;
 use crate::traits::{Clock, Gate, Link, Outgoing, Point};
-use books_shared::{Books, RoomFault, Share};
+use books_shared::{RoomFault, Share};
 use floor_core::{Got, LoadFault, Slot, Turn};
 use meters::{Kind, MeterSeat, Meters};
 use one_list::Run;
-use std::alloc::Global;
 use std::sync::Wait;
 
 /// A link that has sent so many packets sends no more.
@@ -40,9 +40,12 @@ pub struct Job<'a> {
 /// goes on, the link sends it, and the book settles what came back, under its lock again. After each of these steps
 /// the worker passes the gate. No lock is held there or while the link sends. At the end the slot is idle.
 ///
+/// Nothing of the packet leaves before what led to it is kept: neither the frame that goes on, nor the answer to its
+/// sender. Also an answer of which the book has no record waits until the state that it shows is kept.
+///
 /// `Spent` is returned exactly if token and frame are good, and one of the share's counts is full or the link has sent
 /// 2^62 packets. `Memory` means out of memory for the packet's receipts, which never happens to a share that keeps
-/// none. Nothing was decided after either.
+/// none. `NoRoom` means no room to keep what is decided. Nothing was decided after any of these.
 ///
 /// The reply says what became of the packet (`IsCarried`):
 ///
@@ -54,6 +57,8 @@ pub struct Job<'a> {
 /// - The share has met just these steps (`HasGrown`). So the one list's steps of the tenant begin with them.
 /// - If the verdict was to send the packet on, it was sent with the verdict's amount and expiry, to the target of the
 ///   verdict's peer. The sender gets what the book made of the packet, or of what came back.
+/// - After `Unkept` nothing was sent, and after `Untold` the sender gets nothing of what came back: the
+///   keeper of the records has failed.
 /// - `Lost` is returned only if another worker's answer to the packet led to the book since that step (`elsewhere`).
 ///   It never comes in a run in which each worker answers only packets that it sent on itself (`Run::own`).
 /// - The share has grown by just these calls with the book: by what each of them counts for the tenant, and by the
@@ -61,23 +66,19 @@ pub struct Job<'a> {
 ///
 /// The reply's status is counted for the tenant, and so is a fault of the link, unless the seat's count of it is full.
 /// The sender gets the slot's reply if the status is 200, and nothing if it is 503.
-pub fn carry<J: Run, R: Wait, L: Link, G: Gate, C: Clock>(
-    rt: &R,
-    alloc: Global,
-    books: &Books<J>,
-    meters: &Meters,
+pub fn carry<J: Run, R: Wait, L: Link, G: Gate, C: Clock, K: Keeping>(
+    tools: &Tools<'_, J, R, C, K>,
     seat: &mut MeterSeat,
     slot: &mut Slot,
     share: &mut Share<J>,
     link: &mut L,
     gate: &G,
-    clock: &C,
     job: Job<'_>,
 ) -> Reply
     requires idle { slot.old.job ≡ NoJob }
-    requires seat { seat.old.meters ≡ meters.now.id }
-    requires books { job.tenant < books.now.tenants }
-    requires meters { job.tenant < meters.now.tenants }
+    requires seat { seat.old.meters ≡ tools.now.meters.now.id }
+    requires books { job.tenant < tools.now.books.now.tenants }
+    requires meters { job.tenant < tools.now.meters.now.tenants }
     ensures nameless { result ≡ reply.Nameless ↔ is_token job.entry.token.now ≡ false }
     ensures malformed { result ≡ reply.Malformed
         ↔ (is_token job.entry.token.now ≡ true) × (is_ok (prepare_at job.entry.frame.now) ≡ false) }
@@ -88,24 +89,18 @@ pub fn carry<J: Run, R: Wait, L: Link, G: Gate, C: Clock>(
     ensures sends { L.sent link.new ≡ L.sent link.old + sends_of result }
     ensures sent { IsSentSo result job.entry.tenant
         (λ sending. L.sends_so link.old sending link.new) (link.new ≡ link.old) }
-    ensures carried { IsCarried (circumstances J.openings (C.gives clock.now)) result (growth job.entry.tenant share.old share.new)
+    ensures carried { IsCarried (circumstances J.openings (C.gives tools.now.clock.now) (K.keeps tools.now.keeping.now) (K.fails tools.now.keeping.now)) result (growth job.entry.tenant share.old share.new)
         (loaded slot.old job.entry.tenant job.entry.token.now job.entry.frame.now) slot.new
         (λ sending. L.sends_so link.old sending link.new) }
     ensures seat { seat.new ≡ reply_tallied job.entry.tenant result seat.old }
     ensures same_meters { seat.new.meters ≡ seat.old.meters }
     ensures idle { slot.new.job ≡ NoJob }
 {
-    let tools = Tools {
-        rt,
-        alloc,
-        books,
-        clock,
-    };
-    let reply = carried(&tools, gate, slot, share, link, job);
+    let reply = carried(tools, gate, slot, share, link, job);
     close(slot, reply);
-    tally(meters, seat, job.tenant, reply.status().kind());
+    tally(tools.meters, seat, job.tenant, reply.status().kind());
     if reply.got() == Some(Got::Fault) {
-        tally(meters, seat, job.tenant, Kind::LinkFault);
+        tally(tools.meters, seat, job.tenant, Kind::LinkFault);
     }
     reply
 }
@@ -130,8 +125,8 @@ pub(crate) fn tally(meters: &Meters, seat: &mut MeterSeat, tenant: usize, kind: 
 }
 
 // Carries a packet, and leaves the call in the slot if the answer is unavailable (503).
-fn carried<J: Run, R: Wait, L: Link, G: Gate, C: Clock>(
-    tools: &Tools<'_, J, R, C>,
+fn carried<J: Run, R: Wait, L: Link, G: Gate, C: Clock, K: Keeping>(
+    tools: &Tools<'_, J, R, C, K>,
     gate: &G,
     slot: &mut Slot,
     share: &mut Share<J>,
@@ -150,7 +145,7 @@ fn carried<J: Run, R: Wait, L: Link, G: Gate, C: Clock>(
     ensures sends { L.sent link.new ≡ L.sent link.old + sends_of result }
     ensures sent { IsSentSo result job.entry.tenant
         (λ sending. L.sends_so link.old sending link.new) (link.new ≡ link.old) }
-    ensures carried { IsCarried (circumstances J.openings (C.gives tools.now.clock.now)) result (growth job.entry.tenant share.old share.new)
+    ensures carried { IsCarried (circumstances J.openings (C.gives tools.now.clock.now) (K.keeps tools.now.keeping.now) (K.fails tools.now.keeping.now)) result (growth job.entry.tenant share.old share.new)
         (loaded slot.old job.entry.tenant job.entry.token.now job.entry.frame.now) (slot_closed result slot.new)
         (λ sending. L.sends_so link.old sending link.new) }
     ensures over { IsCallOver result slot.new.job }
@@ -166,8 +161,8 @@ fn carried<J: Run, R: Wait, L: Link, G: Gate, C: Clock>(
 }
 
 // Lets the tenant decide the packet of the slot, sends it on, and lets the tenant settle what comes back.
-fn exchanged<J: Run, R: Wait, L: Link, G: Gate, C: Clock>(
-    tools: &Tools<'_, J, R, C>,
+fn exchanged<J: Run, R: Wait, L: Link, G: Gate, C: Clock, K: Keeping>(
+    tools: &Tools<'_, J, R, C, K>,
     gate: &G,
     slot: &mut Slot,
     share: &mut Share<J>,
@@ -184,7 +179,7 @@ fn exchanged<J: Run, R: Wait, L: Link, G: Gate, C: Clock>(
     ensures sends { L.sent link.new ≡ L.sent link.old + sends_of result }
     ensures sent { IsSentSo result tenant
         (λ sending. L.sends_so link.old sending link.new) (link.new ≡ link.old) }
-    ensures carried { IsCarried (circumstances J.openings (C.gives tools.now.clock.now)) result (growth tenant share.old share.new) slot.old (slot_closed result slot.new)
+    ensures carried { IsCarried (circumstances J.openings (C.gives tools.now.clock.now) (K.keeps tools.now.keeping.now) (K.fails tools.now.keeping.now)) result (growth tenant share.old share.new) slot.old (slot_closed result slot.new)
         (λ sending. L.sends_so link.old sending link.new) }
     ensures over { IsCallOver result slot.new.job }
 {
@@ -197,48 +192,58 @@ fn exchanged<J: Run, R: Wait, L: Link, G: Gate, C: Clock>(
         Err(RoomFault::Spent) => return Reply::Spent,
         Err(RoomFault::Memory) => return Reply::Memory,
     }
-    let turn = decide(tools, slot, share, tenant);
+    if !tools.keeping.has_room(tenant) {
+        return Reply::NoRoom;
+    }
+    let (turn, place) = decide(tools, slot, share, tenant);
     gate.pass(share.worker(), Point::Decided);
+    let Ok(durable) = wait_for(tools.keeping, place) else {
+        return Reply::Unkept;
+    };
     match turn {
         Turn::Idle | Turn::Stray => unreachable!(),
         Turn::Stranger => Reply::Stranger,
         Turn::Reply => Reply::Decided,
         Turn::Send { .. } => {
-            let got = send(slot, link, tenant);
+            let got = send(slot, link, tenant, durable);
             gate.pass(share.worker(), Point::Sent);
-            let turn = answer(tools, slot, share, tenant, got);
+            let (turn, place) = answer(tools, slot, share, tenant, got);
             gate.pass(share.worker(), Point::Answered);
             match turn {
-                Turn::Reply => Reply::Settled(got),
+                Turn::Reply => match wait_for(tools.keeping, place) {
+                    Ok(_) => Reply::Settled(got),
+                    Err(_) => Reply::Untold(got),
+                },
                 _ => Reply::Lost(got),
             }
         }
     }
 }
 
-// Lets the tenant decide, by its book, under its lock.
-fn decide<J: Run, R: Wait, C: Clock>(
-    tools: &Tools<'_, J, R, C>,
+// Lets the tenant decide, by its book, under its lock, and gives the place after the book's records.
+fn decide<J: Run, R: Wait, C: Clock, K: Keeping>(
+    tools: &Tools<'_, J, R, C, K>,
     slot: &mut Slot,
     share: &mut Share<J>,
     tenant: usize,
-) -> Turn
+) -> (Turn, JournalPlace)
     requires books { tenant < tools.now.books.now.tenants }
     requires loaded { IsLoaded slot.old.job }
     requires tenant { tenant_in slot.old.job ≡ Some tenant }
     requires room { 1 < share.old.room }
-    ensures decided { IsDecided (circumstances J.openings (C.gives tools.now.clock.now)) result (growth tenant share.old share.new) slot.old slot.new }
-    ensures left { IsSlotLeft result slot.old slot.new }
+    ensures decided { IsDecided (circumstances J.openings (C.gives tools.now.clock.now) (K.keeps tools.now.keeping.now) (K.fails tools.now.keeping.now)) result.0 (growth tenant share.old share.new) slot.old slot.new result.1 }
+    ensures left { IsSlotLeft result.0 slot.old slot.new }
     ensures room { 0 < share.new.room }
 {
     slot.is_work();
     let mut guard = tools.books.enter(tools.rt, tenant);
     guard.meet(share);
-    guard.decide(share, slot, tools.clock.now())
+    let turn = guard.decide(share, slot, tools.clock.now());
+    (turn, place_after(guard.book()))
 }
 
 // Sends the packet on. The answer is then in the slot's buffer.
-fn send<L: Link>(slot: &mut Slot, link: &mut L, tenant: usize) -> Got
+fn send<L: Link>(slot: &mut Slot, link: &mut L, tenant: usize, durable: Durable) -> Got
     requires waits { IsWaiting slot.old.job }
     requires few { L.sent link.old < 2 ^ 62 }
     ensures sent { WasSent result tenant (λ sending. L.sends_so link.old sending link.new) }
@@ -254,30 +259,32 @@ fn send<L: Link>(slot: &mut Slot, link: &mut L, tenant: usize) -> Got
         target,
         frame,
         expiry,
+        durable,
     };
     link.send(packet, out)
 }
 
-// Lets the tenant settle what came back, by its book, under its lock.
-fn answer<J: Run, R: Wait, C: Clock>(
-    tools: &Tools<'_, J, R, C>,
+// Lets the tenant settle what came back, by its book, under its lock, and gives the place after the book's records.
+fn answer<J: Run, R: Wait, C: Clock, K: Keeping>(
+    tools: &Tools<'_, J, R, C, K>,
     slot: &mut Slot,
     share: &mut Share<J>,
     tenant: usize,
     got: Got,
-) -> Turn
+) -> (Turn, JournalPlace)
     requires books { tenant < tools.now.books.now.tenants }
     requires waits { IsWaiting slot.old.job }
     requires tenant { tenant_in slot.old.job ≡ Some tenant }
     requires sent { IsOwnCall share.old tenant slot.old.job }
     requires room { 0 < share.old.room }
-    ensures sure { J.own ≡ true → result ≡ turn.Reply }
-    ensures answered { IsAnswered (circumstances J.openings (C.gives tools.now.clock.now)) result (growth tenant share.old share.new) got slot.old slot.new }
-    ensures ended { IsEnded result slot.old slot.new }
+    ensures sure { J.own ≡ true → result.0 ≡ turn.Reply }
+    ensures answered { IsAnswered (circumstances J.openings (C.gives tools.now.clock.now) (K.keeps tools.now.keeping.now) (K.fails tools.now.keeping.now)) result.0 (growth tenant share.old share.new) got slot.old slot.new result.1 }
+    ensures ended { IsEnded result.0 slot.old slot.new }
 {
     one_list::laws::answered_holds();
     one_list::laws::own_answers();
     let mut guard = tools.books.enter(tools.rt, tenant);
     guard.meet(share);
-    guard.answer(share, slot, tools.clock.now(), got)
+    let turn = guard.answer(share, slot, tools.clock.now(), got);
+    (turn, place_after(guard.book()))
 }

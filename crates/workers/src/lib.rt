@@ -5,6 +5,7 @@
 mod backlog;
 mod carrying;
 mod governing;
+mod keeping;
 mod lanes;
 mod places;
 mod reply;
@@ -16,6 +17,7 @@ mod until;
 pub use backlog::{Backlog, BacklogRoom, BeingWritten};
 pub use carrying::{Job, carry};
 pub use governing::{GovernFault, govern};
+pub use keeping::{Durable, JournalPlace, Keeping, NotKept, NothingKept, place_after};
 pub use lanes::{Lane, StartFault, run_workers};
 pub use places::{Place, PlaceUse, Places};
 pub use reply::{Reply, Status};

@@ -57,10 +57,16 @@ pub enum Reply {
     Spent,
     /// Out of memory for receipts (503). Nothing was decided. Only a share that keeps receipts leads to it.
     Memory,
+    /// There is no room to keep what would be decided (503). Nothing was decided.
+    NoRoom,
+    /// The tenant has decided, and it is not known whether that is kept (503). Nothing was sent.
+    Unkept,
     /// The tenant has decided, and its book has the answer (200).
     Decided,
     /// The packet was sent on, this came back, and the book has settled it (200).
     Settled(Got),
+    /// The packet was sent on, this came back, and the book has settled it. It is not known whether that is kept (503).
+    Untold(Got),
     /// The packet was sent on, this came back, and the book awaited it no longer: another worker had answered it (503).
     Lost(Got),
 }
@@ -76,7 +82,8 @@ impl Reply {
         match self {
             Reply::Malformed => Status::Malformed,
             Reply::Nameless | Reply::Stranger => Status::Unauthorized,
-            Reply::Spent | Reply::Memory | Reply::Lost(_) => Status::Unavailable,
+            Reply::Spent | Reply::Memory | Reply::NoRoom | Reply::Unkept => Status::Unavailable,
+            Reply::Untold(_) | Reply::Lost(_) => Status::Unavailable,
             Reply::Decided | Reply::Settled(_) => Status::Answered,
         }
     }
@@ -86,7 +93,7 @@ impl Reply {
         ensures { result ≡ got_of self }
     {
         match self {
-            Reply::Settled(got) | Reply::Lost(got) => Some(got),
+            Reply::Settled(got) | Reply::Untold(got) | Reply::Lost(got) => Some(got),
             _ => None,
         }
     }

@@ -4,17 +4,20 @@ ghost use Rattle.std.specs.Prelude.{ℕ, ◌≡◌, ◌+◌, ◌<◌, ◌≤◌,
 ghost use Rattle.ilp_view.specs.Packet.{max_frame};
 ghost use Rattle.workers.specs.Replies.{Sending};
 
+use crate::keeping::Durable;
 use floor_core::Got;
 use ilp_addr::{Moment, Target};
 
 /// A packet that a tenant sends on.
-#[derive(Clone, Copy)]
+#[derive(Drop)]
 pub struct Outgoing<'a> {
     pub tenant: usize,
     pub target: &'a Target,
     pub frame: &'a [u8],
     /// When the frame expires, in milliseconds since 1970-01-01.
     pub expiry: u64,
+    /// What led to it is kept.
+    pub durable: Durable,
 }
 
 /// Where packets go.

@@ -219,7 +219,7 @@ impl<H: Wait + Clock, J: Run> Hosted for Inspected<'_, H, J> {
     }
 
     fn lets_in(&self) -> bool {
-        self.office.door.lets_in()
+        self.office.door.lets_in() && !self.office.has_lost_journal()
     }
 
     fn metrics(&self, seat: &mut MeterSeat) -> Result<Vec<u8>, AllocError> {
@@ -239,7 +239,8 @@ impl<H: Wait + Clock, J: Run> Hosted for Inspected<'_, H, J> {
     }
 
     fn present(&self) -> Result<Vec<u8>, AllocError> {
-        present_text(self.handle, self.alloc, self.office)
+        let text = present_text(self.handle, self.alloc, self.office)?;
+        self.office.once_kept(self.handle, text)
     }
 
     fn stop(&self) -> Deserted {
@@ -255,7 +256,8 @@ impl<H: Wait + Clock, J: Run> Hosted for Inspected<'_, H, J> {
     }
 
     fn present_last(&self, _deserted: Deserted) -> Result<Vec<u8>, AllocError> {
-        present_text(self.handle, self.alloc, self.office)
+        let text = present_text(self.handle, self.alloc, self.office)?;
+        self.office.once_kept(self.handle, text)
     }
 }
 

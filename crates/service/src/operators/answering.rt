@@ -170,6 +170,38 @@ fn explained_by(
     explained(alloc, question, &finding, next)
 }
 
+impl<H: Wait, C: Clock, J: Run> Consulted<'_, H, C, J> {
+    // The numbers of a tenant, of its packets and of those of each of its peers.
+    fn measured(&self, seat: &mut MeterSeat, tenant: usize) -> Result<Vec<u8>, AllocError>
+        requires seat { seat.old.meters ≡ self.now.office.now.meters.id }
+        requires tenant { tenant < self.now.office.now.books.tenants }
+        ensures told { IfOk result (λ text. IsTenantMetrics J.openings (is_some self.now.office.now.filing) tenant
+            (slice_get self.now.office.now.names.items tenant) text.items) }
+        ensures same { seat.new ≡ seat.old }
+    {
+        let office = self.office;
+        let gauges = Gauged {
+            handle: self.handle,
+            office,
+        };
+        let counts = counts_of(&gauges, seat, tenant, &office.names[tenant]);
+        let mut text = tenant_metrics_text(self.alloc, office.filing.is_some(), counts)?;
+        let guard = office.books.enter(self.handle, tenant);
+        put_peers(self.alloc, &mut text, &office.names[tenant], guard.book())?;
+        Ok(text)
+    }
+
+    // What the tenant's book would decide on a packet now.
+    fn explained(&self, tenant: usize, question: &Question<'_>) -> Result<Vec<u8>, AllocError>
+        requires { tenant < self.now.office.now.books.tenants }
+        ensures { IfOk result (λ text. IsExplained J.openings (C.gives self.now.clock.now) tenant (question_at question.now) text.items) }
+    {
+        let now = self.clock.now();
+        let guard = self.office.books.enter(self.handle, tenant);
+        explained_by(self.alloc, guard.book(), question, now)
+    }
+}
+
 impl<H: Wait + Disk, C: Clock, J: Run> Operated for Consulted<'_, H, C, J> {
     ghost tenants = { λ s. s.office.now.books.tenants };
 
@@ -198,26 +230,18 @@ impl<H: Wait + Disk, C: Clock, J: Run> Operated for Consulted<'_, H, C, J> {
 
     fn present(&self, tenant: usize) -> Result<Vec<u8>, AllocError> {
         let text = tenant_text(self.handle, self.alloc, self.office, tenant)?;
-        hidden_text(self.alloc, text.as_slice())
+        let text = hidden_text(self.alloc, text.as_slice())?;
+        self.office.once_kept(self.handle, text)
     }
 
     fn metrics(&self, seat: &mut MeterSeat, tenant: usize) -> Result<Vec<u8>, AllocError> {
-        let office = self.office;
-        let gauges = Gauged {
-            handle: self.handle,
-            office,
-        };
-        let counts = counts_of(&gauges, seat, tenant, &office.names[tenant]);
-        let mut text = tenant_metrics_text(self.alloc, office.filing.is_some(), counts)?;
-        let guard = office.books.enter(self.handle, tenant);
-        put_peers(self.alloc, &mut text, &office.names[tenant], guard.book())?;
-        Ok(text)
+        let text = self.measured(seat, tenant)?;
+        self.office.once_kept(self.handle, text)
     }
 
     fn explain(&self, tenant: usize, question: &Question<'_>) -> Result<Vec<u8>, AllocError> {
-        let now = self.clock.now();
-        let guard = self.office.books.enter(self.handle, tenant);
-        explained_by(self.alloc, guard.book(), question, now)
+        let text = self.explained(tenant, question)?;
+        self.office.once_kept(self.handle, text)
     }
 
     fn statement(&self, tenant: usize, period: u64) -> Option<Vec<u8>> {

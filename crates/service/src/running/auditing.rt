@@ -7,7 +7,7 @@ ghost use Rattle.tenant_core.specs.declared.period.PeriodParts.{PeriodParts};
 ghost use Rattle.service.specs.Auditing.{AreLacking, HadMemory, HaveClosed, HaveEnded, HaveRolled, IsAudited, IsCount, IsAuditText, IsWrong, WasRolled};
 ghost use Rattle.service.specs.Auditing.{audit_line, closed_also, fault_word, lists_of};
 ghost use Rattle.service.specs.Lines.{audit_told};
-ghost use Rattle.workers.specs.Carrying.{circumstances};
+ghost use Rattle.service.specs.Journal.{in_office};
 
 use crate::office::Office;
 use crate::running::ending::AuditEnd;
@@ -19,14 +19,14 @@ use receipts::{AuditFault, Receipt, audit};
 use std::alloc::{AllocError, Global};
 use std::sync::Wait;
 use tenant_core::{Answered, Command, CommandFault, Period};
-use workers::{Clock, GovernFault, govern};
+use workers::{Clock, GovernFault, Tools, govern};
 
 // Rolls a tenant, and keeps the period that it closes. A roll that is refused is left to the audit, unless it is out
 // of memory.
-fn roll<J: Run, H: Wait, C: Clock>(
-    system: &System<'_, H, C>,
-    office: &Office<J>,
-    meters: &Meters,
+fn roll<'x, J: Run, H: Wait, C: Clock>(
+    system: &System<'x, H, C>,
+    office: &'x Office<J>,
+    meters: &'x Meters,
     seat: &mut MeterSeat,
     share: &mut Share<J>,
     tenant: usize,
@@ -35,22 +35,21 @@ fn roll<J: Run, H: Wait, C: Clock>(
     requires seat { seat.old.meters ≡ meters.now.id }
     requires books { tenant < office.now.books.tenants }
     requires meters { tenant < meters.now.tenants }
-    ensures rolled { OnOk result (WasRolled (circumstances J.openings (C.gives system.now.clock.now)) tenant
+    ensures rolled { OnOk result (WasRolled (in_office (C.gives system.now.clock.now) office.now) tenant
         (record { share = share.old; closed = periods.old.items }) (record { share = share.new; closed = periods.new.items })) }
     ensures same_meters { seat.new.meters ≡ seat.old.meters }
 {
     periods.reserve(1)?;
-    let answer = govern(
-        system.handle,
-        system.alloc,
-        &office.books,
+    let keeper = office.keeper(system.handle);
+    let tools = Tools {
+        rt: system.handle,
+        alloc: system.alloc,
+        books: &office.books,
         meters,
-        seat,
-        share,
-        system.clock,
-        tenant,
-        &Command::Roll,
-    );
+        clock: system.clock,
+        keeping: &keeper,
+    };
+    let answer = govern(&tools, seat, share, tenant, &Command::Roll);
     keep(answer, periods)
 }
 
@@ -67,17 +66,17 @@ fn keep(answer: Result<Answered, GovernFault>, periods: &mut Vec<Period>) -> Res
 }
 
 // Rolls all tenants, one after another, with these meters.
-fn roll_below<J: Run, H: Wait, C: Clock>(
-    system: &System<'_, H, C>,
-    office: &Office<J>,
-    meters: &Meters,
+fn roll_below<'x, J: Run, H: Wait, C: Clock>(
+    system: &System<'x, H, C>,
+    office: &'x Office<J>,
+    meters: &'x Meters,
     seat: &mut MeterSeat,
     share: &mut Share<J>,
     periods: &mut Vec<Period>,
 ) -> Result<(), AllocError>
     requires seat { seat.old.meters ≡ meters.now.id }
     requires meters { meters.now.tenants ≡ office.now.books.tenants }
-    ensures { OnOk result (HaveRolled (circumstances J.openings (C.gives system.now.clock.now)) office.now.books.tenants
+    ensures { OnOk result (HaveRolled (in_office (C.gives system.now.clock.now) office.now) office.now.books.tenants
         (record { share = share.old; closed = periods.old.items }) (record { share = share.new; closed = periods.new.items })) }
 {
     for tenant in 0..office.books.tenants() {
@@ -93,7 +92,7 @@ fn roll_each<J: Run, H: Wait, C: Clock>(
     share: &mut Share<J>,
     periods: &mut Vec<Period>,
 ) -> Result<(), AllocError>
-    ensures { OnOk result (HaveRolled (circumstances J.openings (C.gives system.now.clock.now)) office.now.books.tenants
+    ensures { OnOk result (HaveRolled (in_office (C.gives system.now.clock.now) office.now) office.now.books.tenants
         (record { share = share.old; closed = periods.old.items }) (record { share = share.new; closed = periods.new.items })) }
 {
     let tenants = office.books.tenants();
@@ -101,7 +100,12 @@ fn roll_each<J: Run, H: Wait, C: Clock>(
         return Ok(());
     }
     let (meters, mut seat) = Meters::new(system.alloc, tenants)?;
-    roll_below(system, office, &meters, &mut seat, share, periods)
+    let near = System {
+        handle: system.handle,
+        alloc: system.alloc,
+        clock: system.clock,
+    };
+    roll_below(&near, office, &meters, &mut seat, share, periods)
 }
 
 /// Closes the running period of each tenant by one of the shares, if `wanted`, and keeps what was closed. Fails only
@@ -114,7 +118,7 @@ pub fn roll_all<J: Run, H: Wait, C: Clock>(
     periods: &mut Vec<Period>,
 ) -> Result<(), AllocError>
     requires { 0 < vec_len shares.old }
-    ensures { OnOk result (HaveClosed (circumstances J.openings (C.gives system.now.clock.now)) wanted office.now.books.tenants
+    ensures { OnOk result (HaveClosed (in_office (C.gives system.now.clock.now) office.now) wanted office.now.books.tenants
         shares.old.items shares.new.items periods.old.items periods.new.items) }
 {
     if !wanted {

@@ -4,7 +4,7 @@ ghost use Rattle.std.specs.Prelude.{◌≡◌, ◌≢◌, ◌<◌, ◌++◌, [],
 ghost use Rattle.tenant_core.specs.declared.period.PeriodParts.{PeriodParts};
 ghost use Rattle.service.specs.Auditing.{HaveEnded, IsAudited, IsAuditText};
 ghost use Rattle.service.specs.Extents.{closes_at_end};
-ghost use Rattle.workers.specs.Carrying.{circumstances};
+ghost use Rattle.service.specs.Journal.{in_office};
 
 use crate::filing::disk::Disk;
 use crate::filing::file_each;
@@ -110,7 +110,7 @@ fn finished<J: Run, H: Wait + Disk, C: Clock>(
     periods: Option<Vec<Period>>,
 ) -> Result<Last, AllocError>
     requires { 0 < vec_len shares.old }
-    ensures ended { OnOk result (HaveEnded (circumstances J.openings (C.gives system.now.clock.now)) (closes_at_end plan.entry)
+    ensures ended { OnOk result (HaveEnded (in_office (C.gives system.now.clock.now) office.now) (closes_at_end plan.entry)
         office.now.books.tenants shares.old.items shares.new.items) }
     ensures audited { IfOk result (λ last. last.audit.end ≡ AuditEnd.Good
         → IsAudited plan.entry.report.audit shares.new.items last.audit.line.items) }
@@ -138,7 +138,7 @@ pub fn finish<J: Run, H: Wait + Disk, C: Clock>(
     periods: Option<Vec<Period>>,
 ) -> Last
     requires { 0 < vec_len shares.old }
-    ensures ended { result.audit.end ≡ AuditEnd.Good → HaveEnded (circumstances J.openings (C.gives system.now.clock.now))
+    ensures ended { result.audit.end ≡ AuditEnd.Good → HaveEnded (in_office (C.gives system.now.clock.now) office.now)
         (closes_at_end plan.entry) office.now.books.tenants shares.old.items shares.new.items }
     ensures audited { result.audit.end ≡ AuditEnd.Good → IsAudited plan.entry.report.audit shares.new.items result.audit.line.items }
     ensures found { (closed : List PeriodParts)

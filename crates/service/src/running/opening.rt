@@ -1,27 +1,44 @@
 //! What a service begins with.
 
-ghost use Rattle.std.specs.Prelude.{ℕ, ◌≡◌, ◌≤◌, length, map, vec_len, true, All, IfOk};
+ghost use Rattle.std.specs.Prelude.{ℕ, ◌≡◌, ◌≤◌, length, map, vec_len, true, All, IfOk, is_some};
 ghost use Rattle.allotment.specs.Loans.{max_places};
 ghost use Rattle.tenant_core.specs.Limits.{max_tenants};
 ghost use Rattle.meters.specs.Seats.{count_of, empty_seat};
 ghost use Rattle.meters.specs.declared.kind.Kind as meter;
 ghost use Rattle.books_shared.specs.Gathers.{max_workers};
-ghost use Rattle.books_shared.specs.Traced.{openings_of};
+ghost use Rattle.books_shared.specs.Shares.{fresh_shares};
+ghost use Rattle.books_shared.specs.Begun.{AreNumbered};
 ghost use Rattle.service.specs.Answering.{IsUncounted, IsOfficeOf};
 
 use crate::connection::door::Door;
 use crate::filing::Filing;
+use crate::journal::DiskJournal;
 use crate::office::{Office, Terms};
+use crate::running::ending::ServeFault;
 use crate::running::plan::{Extent, Plan, most_waiting_of, total_of};
 use admin_text::Setup;
+use book_journal::LogWriter;
 use books_shared::{Books, Share};
+use common_types::ReadError;
+use log_folder::DiskFile;
 use meters::{MeterSeat, Meters};
 use one_list::{Opened, Run};
 use std::alloc::{AllocError, Global};
 use std::sync::atomic::AtomicU64;
 use std::time::Instant;
-use tenant_core::TenantSetup;
+use tenant_core::{Opening, TenantSetup};
 use workers::{Backlog, Places};
+
+/// What a service is given to begin with.
+#[derive(Drop)]
+pub struct Start<'a> {
+    /// The names of the tenants, the tokens of their operators, and for how long each holds a packet.
+    pub setup: &'a Setup,
+    /// What each tenant's first period in this run begins with.
+    pub openings: &'a [Opening],
+    /// What writes the journal of what is done to their books, if one is kept.
+    pub journal: Option<LogWriter<DiskFile>>,
+}
 
 /// What a service begins with.
 #[derive(Drop)]
@@ -33,26 +50,30 @@ pub struct Begun<J: Run> {
     pub shares: Vec<Share<J>>,
 }
 
-/// The office of the tenants of a setup, to whom nothing has happened, for this plan, of a service that begins at that moment. So many desks count in its books, and
-/// keep receipts if the run is audited. The list of what is done to their books was just opened, for so many tenants and desks.
+/// The office of these tenants, to whom nothing has happened since their openings, for this plan, of a service that begins at that
+/// moment. So many desks count in its books, and keep receipts if the run is audited. The list of what is done to their books was
+/// just opened, for so many tenants and desks. `Device` if no period can begin so.
 pub fn open_office<J: Run>(
     alloc: Global,
     begun: Instant,
     opened: Opened,
-    setup: &Setup,
+    start: Start<'_>,
     plan: Plan<'_>,
     desks: usize,
-) -> Result<Begun<J>, AllocError>
+) -> Result<Begun<J>, ServeFault>
     requires list { (opened.table ≡ J.table) × (opened.size ≡ J.size) }
-    requires size { J.size ≡ record { tenants = length setup.now.tenants; workers = desks } }
-    requires openings { J.openings ≡ openings_of setup.now.tenants setup.now.start }
-    requires tenants { (1 ≤ length setup.now.tenants) × (length setup.now.tenants ≤ max_tenants) }
+    requires size { J.size ≡ record { tenants = length start.setup.now.tenants; workers = desks } }
+    requires openings { J.openings ≡ start.openings.now }
+    requires as_many { length start.openings.now ≡ length start.setup.now.tenants }
+    requires numbers { AreNumbered start.openings.now }
+    requires tenants { (1 ≤ length start.setup.now.tenants) × (length start.setup.now.tenants ≤ max_tenants) }
     requires workers { (1 ≤ plan.extent.workers) × (plan.extent.workers ≤ max_places) }
     requires desks { (1 ≤ desks) × (desks ≤ max_workers) }
-    ensures known { IfOk result (λ begun. IsOfficeOf setup.now begun.office) }
+    ensures known { IfOk result (λ begun. IsOfficeOf start.entry.setup.now begun.office) }
     ensures first { IfOk result (λ begun. begun.first ≡ empty_seat begun.office.meters.id true) }
     ensures zero { IfOk result (λ begun. (tenant : ℕ) (kind : meter.Kind) → count_of tenant kind begun.first ≡ 0) }
     ensures admin { IfOk result (λ begun. begun.office.admin ≡ plan.entry.admin) }
+    ensures journal { IfOk result (λ begun. is_some begun.office.journal ≡ is_some start.entry.journal) }
     ensures each { IfOk result (λ begun. vec_len begun.shares ≡ desks) }
     ensures fresh { IfOk result (λ begun. All IsUncounted begun.shares.items) }
 {
@@ -63,8 +84,13 @@ pub fn open_office<J: Run>(
         roll_at,
         admin,
     } = plan;
-    let (tenants, start) = (setup.tenants.as_slice(), setup.start);
-    let (books, shares) = Books::new(alloc, opened, tenants, start, desks, report.audit)?;
+    let Start {
+        setup,
+        openings,
+        journal,
+    } = start;
+    let tenants = setup.tenants.as_slice();
+    let (books, shares) = begun_books(alloc, opened, openings, desks, report.audit)?;
     let (meters, first) = Meters::new(alloc, tenants.len())?;
     let office = Office {
         names: setup.names(alloc)?,
@@ -74,8 +100,9 @@ pub fn open_office<J: Run>(
         places: places_of(alloc, extent, tenants.len())?,
         door: Door::new(begun, total_of(extent)),
         filing: filing_of(alloc, statements, tenants.len())?,
+        journal: journal_of(alloc, journal, openings)?,
         refused_tokens: counters(alloc, tenants.len())?,
-        start,
+        start: setup.start,
         roll_at,
         admin,
     };
@@ -84,6 +111,44 @@ pub fn open_office<J: Run>(
         first,
         shares,
     })
+}
+
+// The books of these openings, and the shares of so many desks.
+fn begun_books<J: Run>(
+    alloc: Global,
+    opened: Opened,
+    openings: &[Opening],
+    desks: usize,
+    is_audited: bool,
+) -> Result<(Books<J>, Vec<Share<J>>), ServeFault>
+    requires list { (opened.table ≡ J.table) × (opened.size ≡ J.size) }
+    requires size { J.size ≡ record { tenants = length openings.now; workers = desks } }
+    requires openings { J.openings ≡ openings.now }
+    requires numbers { AreNumbered openings.now }
+    requires tenants { (1 ≤ length openings.now) × (length openings.now ≤ max_tenants) }
+    requires desks { (1 ≤ desks) × (desks ≤ max_workers) }
+    ensures books { IfOk result (λ made. made.0 ≡ record { tenants = length openings.now; workers = desks }) }
+    ensures shares { IfOk result (λ made. made.1.items ≡ fresh_shares is_audited desks) }
+{
+    match Books::begun(alloc, opened, openings, desks, is_audited) {
+        Ok(made) => Ok(made),
+        Err(ReadError::Memory) => Err(ServeFault::Memory),
+        Err(ReadError::Fault(_)) => Err(ServeFault::Device),
+    }
+}
+
+// The journal that is written so, of tenants that begin so.
+fn journal_of(
+    alloc: Global,
+    writer: Option<LogWriter<DiskFile>>,
+    openings: &[Opening],
+) -> Result<Option<DiskJournal>, AllocError>
+    ensures { IfOk result (λ journal. is_some journal ≡ is_some writer) }
+{
+    match writer {
+        Some(writer) => Ok(Some(DiskJournal::new(alloc, writer, openings)?)),
+        None => Ok(None),
+    }
 }
 
 // The places that so many tenants share.

@@ -6,7 +6,7 @@ ghost use Rattle.std.specs.List.{sum_by};
 ghost use Rattle.std.specs.Option.{option_to_list};
 ghost use Rattle.allotment.specs.Loans.{max_places};
 ghost use Rattle.books_shared.specs.Gathers.{max_workers};
-ghost use Rattle.books_shared.specs.Traced.{openings_of};
+ghost use Rattle.books_shared.specs.Begun.{AreNumbered};
 ghost use Rattle.tenant_core.specs.Limits.{max_tenants};
 ghost use Rattle.std.specs.Fmt.{decimal};
 ghost use Rattle.meters.specs.Seats.{count_of, max_splits};
@@ -33,12 +33,11 @@ use crate::running::ended::{Ended, work_to_the_end};
 use crate::running::ending::{ServeFault, end_of, ungathered_end};
 use crate::running::finishing::{Last, finish, followed_by, with_more};
 use crate::running::meeting::Meeting;
-use crate::running::opening::{Begun, open_office};
+use crate::running::opening::{Begun, Start, open_office};
 use crate::running::plan::{Plan, desk_count};
 use crate::system::System;
 use crate::worker::Worker;
 use crate::worker::desk::Desk;
-use admin_text::Setup;
 use books_shared::{GatherFault, Share};
 use common_types::Name;
 use floor_core::Slot;
@@ -585,11 +584,15 @@ pub struct Doors<'a> {
 /// tenant, and each statement that is not kept has a line: `statement NAME PERIOD missing`. With an audit the receipts of all
 /// workers are written too; the line `receipts missing` says that they are not kept.
 ///
+/// If a journal is kept, nothing leaves the service before what led to it is on the disk. That holds of each frame that goes on,
+/// and of each answer to a packet, to a command or to a question about a book, but not of the host's metrics. Once the journal
+/// can't be written any more, packets and commands are refused (503), and the service ends.
+///
 /// Errors:
 ///
 /// - `Memory`: out of memory, also if only the audit is.
 /// - `Device`: a thread could not be started, or the lines or a statement not be written; or a connection not be accepted, unless
-///   the host stopped the service.
+///   the host stopped the service. Or the journal could not be written: its log is full, or the disk has failed.
 /// - `Differs`: the books at the end are not what the workers counted. No lock that returns what was left in it leads to this.
 /// - `Audit`: an audit found a fault, or the books differ.
 ///
@@ -606,26 +609,29 @@ pub fn serve<
 >(
     handle: &H,
     alloc: Global,
-    setup: &Setup,
+    start: Start<'_>,
     plan: Plan<'_>,
     doors: Doors<'_>,
     clock: &C,
     writer: &mut W,
 ) -> Result<(), ServeFault>
-    requires tenants { (1 ≤ length setup.now.tenants) × (length setup.now.tenants ≤ max_tenants) }
+    requires as_many { length start.openings.now ≡ length start.setup.now.tenants }
+    requires numbers { AreNumbered start.openings.now }
+    requires tenants { (1 ≤ length start.setup.now.tenants) × (length start.setup.now.tenants ≤ max_tenants) }
     requires workers { (1 ≤ plan.extent.workers) × (plan.extent.workers ≤ max_places) }
     requires connections { (1 ≤ plan.extent.connections) × (plan.extent.connections ≤ max_workers) }
-    ensures { OnOk result (HasToldCounts (C.gives clock.now) setup.now plan.entry (is_some doors.entry.operators) (W.contents writer.old) (W.contents writer.new)) }
+    ensures { OnOk result (HasToldCounts (C.gives clock.now) start.entry.setup.now start.entry.openings.now plan.entry
+        (record { operators = is_some doors.entry.operators; journal = is_some start.entry.journal }) (W.contents writer.old) (W.contents writer.new)) }
 {
     let system = System {
         handle,
         alloc,
         clock,
     };
-    let tenants = setup.tenants.as_slice().len();
+    let tenants = start.openings.len();
     let desks = desk_count(plan.extent, doors.operators.is_some());
     let opened = Opened::new(alloc, tenants, desks)?;
-    serve_run::<Brand, _, _, _>(system, opened, setup, plan, doors, writer)
+    serve_run::<Brand, _, _, _>(system, opened, start, plan, doors, writer)
 }
 
 // Serves, with one list of all that is done to the books, which has just been opened.
@@ -642,19 +648,21 @@ fn serve_run<
 >(
     system: System<'_, H, C>,
     opened: Opened,
-    setup: &Setup,
+    start: Start<'_>,
     plan: Plan<'_>,
     doors: Doors<'_>,
     writer: &mut W,
 ) -> Result<(), ServeFault>
     requires list { (opened.table ≡ J.table) × (opened.size ≡ J.size) }
-    requires size { J.size ≡ record { tenants = length setup.now.tenants; workers = desk_count plan.extent.connections (is_some doors.operators) } }
-    requires openings { J.openings ≡ openings_of setup.now.tenants setup.now.start }
-    requires tenants { (1 ≤ length setup.now.tenants) × (length setup.now.tenants ≤ max_tenants) }
+    requires size { J.size ≡ record { tenants = length start.openings.now; workers = desk_count plan.extent.connections (is_some doors.operators) } }
+    requires openings { J.openings ≡ start.openings.now }
+    requires as_many { length start.openings.now ≡ length start.setup.now.tenants }
+    requires numbers { AreNumbered start.openings.now }
+    requires tenants { (1 ≤ length start.setup.now.tenants) × (length start.setup.now.tenants ≤ max_tenants) }
     requires workers { (1 ≤ plan.extent.workers) × (plan.extent.workers ≤ max_places) }
     requires connections { (1 ≤ plan.extent.connections) × (plan.extent.connections ≤ max_workers) }
-    ensures { OnOk result (HasToldCountsIn J.Run (C.gives system.entry.clock.now) setup.now plan.entry (is_some doors.entry.operators)
-        (W.contents writer.old) (W.contents writer.new)) }
+    ensures { OnOk result (HasToldCountsIn J.Run (C.gives system.entry.clock.now) start.entry.setup.now plan.entry
+        (record { operators = is_some doors.entry.operators; journal = is_some start.entry.journal }) (W.contents writer.old) (W.contents writer.new)) }
 {
     let (alloc, report) = (system.alloc, plan.report);
     let desks = desk_count(plan.extent, doors.operators.is_some());
@@ -663,7 +671,7 @@ fn serve_run<
         office,
         mut first,
         shares,
-    } = open_office::<J>(alloc, begun, opened, setup, plan, desks)?;
+    } = open_office::<J>(alloc, begun, opened, start, plan, desks)?;
     let done = run_all(&system, &office, &mut first, shares, doors, report.audit)?;
     let Done {
         mut shares,
@@ -673,6 +681,7 @@ fn serve_run<
     let Last { missing, audit } = finish(&system, plan, &office, &mut shares, periods);
     let last = followed_by(missing, audit.line.as_slice())?;
     let was_stopped = office.door.is_closed();
+    let is_lost = office.has_lost_journal();
     let Office {
         books,
         names,
@@ -685,10 +694,22 @@ fn serve_run<
         Ok(gathered) => {
             let text = balance_lines(alloc, report.balances, names, gathered)?;
             tell(alloc, text, names, &totals, last.text.as_slice(), writer)?;
-            end_of(failed, was_stopped, last.is_stated, audit.end)
+            end_of(
+                failed,
+                was_stopped,
+                all_kept(last.is_stated, is_lost),
+                audit.end,
+            )
         }
         Err(fault) => tell_ungathered(alloc, &fault, report.audit, names, &totals, writer),
     }
+}
+
+// Whether all is kept: statements and receipts, and what was done in the journal, if it is not lost.
+fn all_kept(is_stated: bool, is_lost: bool) -> bool
+    ensures { result ≡ true → is_stated ≡ true }
+{
+    is_stated && !is_lost
 }
 
 // Writes the lines of the tenants where the books were not gathered, and gives how the service ends.

@@ -31,15 +31,15 @@ impl Gate for NoGate {
 
 impl<J: Run> Desk<J> {
     /// Carries a packet of a tenant of the office, through a link to its next peers, and gives the status of the answer.
-    pub fn carry<H: Wait + Net<Stream = TcpStream> + std::time::Clock, C: Clock>(
+    pub fn carry<'x, H: Wait + Net<Stream = TcpStream> + std::time::Clock, C: Clock>(
         &mut self,
-        system: &System<'_, H, C>,
-        office: &Office<J>,
+        system: &System<'x, H, C>,
+        office: &'x Office<J>,
         job: Job<'_>,
     ) -> Status
         requires seat { self.old.seat.meters ≡ office.now.meters.id }
         requires tenant { job.tenant < office.now.books.tenants }
-        ensures carried { WasCarried (C.gives system.now.clock.now) self.old
+        ensures carried { WasCarried (C.gives system.now.clock.now) office.now self.old
             job.entry.tenant job.entry.token.now job.entry.frame.now result self.new }
         ensures same_meters { self.new.seat.meters ≡ self.old.seat.meters }
         ensures told { self.new.told ≡ self.old.told }
@@ -48,17 +48,22 @@ impl<J: Run> Desk<J> {
         let (terms, places, door) = (office.terms.as_slice(), &office.places, &office.door);
         let peers = Sockets { handle };
         let mut link = PeerLink::new(handle, clock, terms, places, door, peers, self.sent);
+        let keeper = office.keeper(handle);
+        let tools = Tools {
+            rt: system.handle,
+            alloc: system.alloc,
+            books: &office.books,
+            meters: &office.meters,
+            clock: system.clock,
+            keeping: &keeper,
+        };
         let reply = carry(
-            system.handle,
-            system.alloc,
-            &office.books,
-            &office.meters,
+            &tools,
             &mut self.seat,
             &mut self.slot,
             &mut self.share,
             &mut link,
             &NoGate,
-            system.clock,
             job,
         );
         self.sent = link.sends();
@@ -105,10 +110,10 @@ impl<J: Run> Desk<J> {
 
     /// Does the command in a body, if it is one, for a tenant of the office, and returns the status of the answer. The error is
     /// what is wrong with a body that is not a command.
-    pub fn obey<H: Wait, C: Clock>(
+    pub fn obey<'x, H: Wait, C: Clock>(
         &mut self,
-        system: &System<'_, H, C>,
-        office: &Office<J>,
+        system: &System<'x, H, C>,
+        office: &'x Office<J>,
         tenant: usize,
         body: &[u8],
     ) -> Result<Status, TextFault>
@@ -139,10 +144,10 @@ impl<J: Run> Desk<J> {
 
     /// Closes the running period of a tenant of the office if it is ripe and the service closes ripe ones, and hands it to the one
     /// who writes statements where they are kept. A period stays open while too many statements of the tenant wait.
-    pub fn tidy<H: Wait, C: Clock>(
+    pub fn tidy<'x, H: Wait, C: Clock>(
         &mut self,
-        system: &System<'_, H, C>,
-        office: &Office<J>,
+        system: &System<'x, H, C>,
+        office: &'x Office<J>,
         tenant: usize,
     )
         requires tenant { tenant < office.now.books.tenants }
@@ -166,23 +171,26 @@ impl<J: Run> Desk<J> {
     }
 
     // Closes the period of a tenant of the office if it is ripe, and gives it.
-    fn roll<H: Wait, C: Clock>(
+    fn roll<'x, H: Wait, C: Clock>(
         &mut self,
-        system: &System<'_, H, C>,
-        office: &Office<J>,
+        system: &System<'x, H, C>,
+        office: &'x Office<J>,
         tenant: usize,
         percent: u8,
     ) -> Option<Period>
         requires tenant { tenant < office.now.books.tenants }
-        ensures rolled { WasRolledRipe (C.gives system.now.clock.now) percent self.old tenant self.new }
+        ensures rolled { WasRolledRipe (C.gives system.now.clock.now) office.now percent self.old tenant self.new }
         ensures told { self.new.told ≡ self.old.told }
         ensures printed { self.new.printed ≡ self.old.printed }
     {
+        let keeper = office.keeper(system.handle);
         let tools = Tools {
             rt: system.handle,
             alloc: system.alloc,
             books: &office.books,
+            meters: &office.meters,
             clock: system.clock,
+            keeping: &keeper,
         };
         match roll_if_ripe(&tools, &mut self.share, tenant, percent) {
             Ok(Some(Answered::Rolled(period))) => Some(period),
@@ -191,10 +199,10 @@ impl<J: Run> Desk<J> {
     }
 
     // Governs a tenant of the office, keeps what is printed of the answer, and gives the status, and the period that was closed.
-    fn govern<H: Wait, C: Clock>(
+    fn govern<'x, H: Wait, C: Clock>(
         &mut self,
-        system: &System<'_, H, C>,
-        office: &Office<J>,
+        system: &System<'x, H, C>,
+        office: &'x Office<J>,
         tenant: usize,
         command: &Command,
     ) -> (Status, Option<Period>)
@@ -205,17 +213,16 @@ impl<J: Run> Desk<J> {
         ensures same_meters { self.new.seat.meters ≡ self.old.seat.meters }
         ensures told { self.new.told ≡ self.old.told }
     {
-        let answer = govern(
-            system.handle,
-            system.alloc,
-            &office.books,
-            &office.meters,
-            &mut self.seat,
-            &mut self.share,
-            system.clock,
-            tenant,
-            command,
-        );
+        let keeper = office.keeper(system.handle);
+        let tools = Tools {
+            rt: system.handle,
+            alloc: system.alloc,
+            books: &office.books,
+            meters: &office.meters,
+            clock: system.clock,
+            keeping: &keeper,
+        };
+        let answer = govern(&tools, &mut self.seat, &mut self.share, tenant, command);
         tell(system.alloc, office, tenant, answer, &mut self.printed)
     }
 }
@@ -249,12 +256,15 @@ fn tell<J: Run>(
 {
     match answer {
         Ok(answered) => print(alloc, office, tenant, Ok(answered), printed),
-        Err(GovernFault::Spent | GovernFault::Memory | GovernFault::Stray) => (
-            Status::Unavailable,
-            None,
-        ),
         Err(GovernFault::Refused(CommandFault::Memory)) => (Status::Unavailable, None),
         Err(GovernFault::Refused(fault)) => print(alloc, office, tenant, Err(fault), printed),
+        Err(
+            GovernFault::Spent
+            | GovernFault::Memory
+            | GovernFault::NoRoom
+            | GovernFault::Stray
+            | GovernFault::Unkept,
+        ) => (Status::Unavailable, None),
     }
 }
 

@@ -6,11 +6,15 @@ ghost use Rattle.tenant_core.specs.Limits.{max_tenants};
 use admin_text::{Setup, read_setup};
 use book_journal::Journal;
 use book_log::write_base;
+use ilp_addr::Moment;
 use line_log::{Log, Memory};
 use std::alloc::Global;
 use std::process::Abort;
 use std::test::Fail;
-use subcommands::{Journalist, NoPeriods, reopened, replay_journalled, starts_of};
+use subcommands::{
+    Following, Journalist, NoPeriods, follow, openings_of_setup, reopened, replay_journalled,
+    starts_of,
+};
 
 const SETUP: &str = "version = 1
 start = 1893456000000
@@ -108,5 +112,49 @@ fn only_what_is_kept_is_printed(rt: HostRuntime) -> Result<(), Fail> {
         };
         assert_eq!(rt; found, wanted);
     }
+    Ok(())
+}
+
+// What follows the books of the setup, after a tick, at that moment.
+fn followed(alloc: Global, now: u64) -> Result<Following, Fail> {
+    let setup = setup(alloc)?;
+    let starts = starts_of(alloc, &setup)?;
+    let (base, sum) = write_base(alloc, starts.as_slice())?;
+    let journal = Journal::new(alloc, blank(alloc, SIZE, 2)?, sum, starts.as_slice())?;
+    let mut journalist = Journalist::new(journal, NoPeriods);
+    let (mut reader, mut printed) = (STEP.as_bytes(), Vec::new(alloc));
+    let _ = replay_journalled(alloc, &setup, 1, &mut reader, &mut journalist, &mut printed);
+    let Ok(found) = reopened(alloc, &base, journalist.journal().log().file().bytes()) else {
+        return Err(Fail::from("books"));
+    };
+    match follow(alloc, found, Moment::new(now).ok_or("a moment")?) {
+        Ok(following) => Ok(following),
+        Err(_) => Err(Fail::from("a period that follows")),
+    }
+}
+
+#[test]
+fn a_service_goes_on_with_the_next_period(rt: HostRuntime) -> Result<(), Fail> {
+    let now = 1_893_456_000_001;
+    let following = followed(rt.alloc(), now)?;
+    let start = following.starts.first().ok_or("a start")?;
+    assert!(rt; following.starts.len() == 1 && start.opening.tenant == 0);
+    assert!(rt; start.opening.period == 1 && start.opening.clock == now);
+    assert!(rt; start.admin.as_bytes() == b"root-a".as_slice());
+    let setup = following.setups.first().ok_or("a setup")?;
+    assert!(rt; setup.terms().name.as_bytes() == b"acme".as_slice());
+    // The tick, and the roll.
+    let period = following.periods.first().ok_or("a period")?;
+    assert!(rt; period.number() == 0 && period.len() == 2);
+    Ok(())
+}
+
+#[test]
+fn a_service_without_a_journal_begins_with_its_setup(rt: HostRuntime) -> Result<(), Fail> {
+    let alloc = rt.alloc();
+    let openings = openings_of_setup(alloc, &setup(alloc)?)?;
+    let opening = openings.first().ok_or("an opening")?;
+    assert!(rt; openings.len() == 1 && opening.tenant == 0 && opening.period == 0);
+    assert!(rt; opening.clock == 1_893_456_000_000);
     Ok(())
 }

@@ -67,6 +67,9 @@ serve s1.toml --workers 1 --rounds 1000001 -> error: invalid value '1000001' for
 serve s1.toml --workers 1 --roll-at 80 -> s1.toml 1 serve 256 - rolls at 80
 serve s1.toml --workers 1 --roll-at 0 -> error: invalid value '0' for '--roll-at <PERCENT>': 1 to 100
 serve s1.toml --workers 1 --roll-at 101 -> error: invalid value '101' for '--roll-at <PERCENT>': 1 to 100
+serve s1.toml --workers 1 --journal kept -> s1.toml 1 serve 256 -
+serve s1.toml --workers 1 --journal -> error:
+serve s1.toml --workers 1 --journal kept --audit -> error: the argument '--audit' cannot be used with '--journal <DIR>'
 --help -> A connector
 --version -> ilpd 0.1.0
 -V -> ilpd 0.1.0
@@ -285,6 +288,8 @@ fn journals(rt: HostRuntime) -> Result<(), Fail> {
     assert!(rt; names_journal(alloc, "replay s1.toml --journal kept", (Some("kept"), None))?);
     assert!(rt; names_journal(alloc, "verify --journal kept", (Some("kept"), None))?);
     assert!(rt; names_journal(alloc, "recover kept", (Some("kept"), None))?);
+    let words = "serve s1.toml --workers 1 --journal kept";
+    assert!(rt; names_journal(alloc, words, (Some("kept"), None))?);
     let words = "recover kept --setup next.toml";
     assert!(rt; names_journal(alloc, words, (Some("kept"), Some("next.toml")))?);
     Ok(())

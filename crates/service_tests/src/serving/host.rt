@@ -2,10 +2,13 @@
 
 use super::crowd::{Exchange, beside_peer, both_exchanges, connected, is_told, setup_text};
 use super::wire::{FixedClock, is_reply, packet_by, request};
-use super::{NOTHING_MORE, asked};
+use super::{NOTHING_MORE, asked, openings_of};
 use admin_text::read_setup;
+use books_shared::are_numbered;
 use common_types::Token;
-use service::{Disk, Doors, Extent, HostDoor, OperatorDoor, Plan, Report, ServeFault, serve};
+use service::{
+    Disk, Doors, Extent, HostDoor, OperatorDoor, Plan, Report, ServeFault, Start, serve,
+};
 use std::alloc::Global;
 use std::net::{Net, OpenListener, SocketAddr, TcpListener, TcpStream};
 use std::process::Abort;
@@ -108,7 +111,17 @@ where
         host: Some(host),
         operators,
     };
-    serve(rt, rt.alloc(), &setup, plan, doors, &FixedClock, lines)
+    let openings = openings_of(rt.alloc(), &setup)?;
+    let tenants = setup.tenants.as_slice().len();
+    if openings.len() != tenants || !are_numbered(openings.as_slice()) {
+        return Err(ServeFault::Device);
+    }
+    let start = Start {
+        setup: &setup,
+        openings: openings.as_slice(),
+        journal: None,
+    };
+    serve(rt, rt.alloc(), start, plan, doors, &FixedClock, lines)
 }
 
 /// What the setup of two tenants is, whose peers owe that.

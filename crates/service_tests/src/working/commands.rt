@@ -7,7 +7,7 @@ use one_list::Run;
 use std::sync::Wait;
 use std::test::Fail;
 use tenant_core::{Answered, Command, CommandFault, Order, Period};
-use workers::{GovernFault, Tools, govern, roll_if_ripe};
+use workers::{GovernFault, NothingKept, Tools, govern, roll_if_ripe};
 
 // The outcome of a command of acme's operator, which the meters have counted as answered.
 fn governed<J: Run, R: Wait + AllocGlobal>(
@@ -22,9 +22,15 @@ fn governed<J: Run, R: Wait + AllocGlobal>(
     }
     let (meters, mut seat) = Meters::new(alloc, 1)?;
     let clock = FixedClock(start()?);
-    let answer = govern(
-        rt, alloc, books, &meters, &mut seat, share, &clock, 0, command,
-    );
+    let tools = Tools {
+        rt,
+        alloc,
+        books,
+        meters: &meters,
+        clock: &clock,
+        keeping: &NothingKept,
+    };
+    let answer = govern(&tools, &mut seat, share, 0, command);
     if counts_of(&meters.close(seat)) == ONE_ANSWERED {
         Ok(answer)
     } else {
@@ -124,11 +130,14 @@ fn looked_at<J: Run, R: Wait + AllocGlobal>(
     if team.books.tenants() == 0 {
         return Err("a tenant".into());
     }
+    let (meters, _seat) = Meters::new(rt.alloc(), 1)?;
     let tools = Tools {
         rt,
         alloc: rt.alloc(),
         books: &team.books,
+        meters: &meters,
         clock: &FixedClock(start()?),
+        keeping: &NothingKept,
     };
     match roll_if_ripe(&tools, &mut team.first, 0, percent) {
         Ok(Some(Answered::Rolled(period))) => Ok(Some(period.len())),

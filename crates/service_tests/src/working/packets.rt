@@ -16,7 +16,7 @@ use std::sync::atomic::{AtomicU64, Ordering};
 use std::test::Fail;
 use tenant_core::{Book, PeerNo, RejectCode};
 use test_texts::frame;
-use workers::{Clock, Gate, Job, Link, Outgoing, Point, Reply, carry};
+use workers::{Clock, Gate, Job, Link, NothingKept, Outgoing, Point, Reply, Tools, carry};
 
 // The URL for bob's packets.
 const BOB_URL: &[u8] = b"http://127.0.0.1:7802/ilp";
@@ -305,9 +305,15 @@ fn carried<J: Run, R: Wait + AllocGlobal>(
         next: AtomicU64::new(START),
         step,
     };
-    let reply = carry(
-        rt, alloc, books, &meters, &mut seat, &mut slot, share, link, &Open, &clock, job,
-    );
+    let tools = Tools {
+        rt,
+        alloc,
+        books,
+        meters: &meters,
+        clock: &clock,
+        keeping: &NothingKept,
+    };
+    let reply = carry(&tools, &mut seat, &mut slot, share, link, &Open, job);
     let is_told = slot.reply() == told;
     Ok((reply, is_told, counts_of(&meters.close(seat))))
 }

@@ -20,7 +20,8 @@ use std::thread::Threads;
 use tenant_core::TenantSetup;
 use test_texts::frame;
 use workers::{
-    Clock, Gate, Job, Lane, Link, Outgoing, Point, Reply, StartFault, carry, run_workers,
+    Clock, Gate, Job, Lane, Link, NothingKept, Outgoing, Point, Reply, StartFault, Tools, carry,
+    run_workers,
 };
 
 /// The point at which worker 0 is kept until worker 1 has its answer settled.
@@ -165,9 +166,15 @@ fn carried<J: Run, R: Wait>(rt: &R, carrier: &mut Carrier<'_, J>) -> Option<Repl
         token: b"tok-alice",
         frame: packet.as_slice(),
     };
-    Some(carry(
-        rt, alloc, books, &meters, &mut seat, &mut slot, share, &mut link, meeting, &clock, job,
-    ))
+    let tools = Tools {
+        rt,
+        alloc,
+        books,
+        meters: &meters,
+        clock: &clock,
+        keeping: &NothingKept,
+    };
+    Some(carry(&tools, &mut seat, &mut slot, share, &mut link, meeting, job))
 }
 
 impl<J: Run + Send + Sync> Lane for Carrier<'_, J> {

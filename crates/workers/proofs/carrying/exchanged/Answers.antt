@@ -1,23 +1,24 @@
-use Rattle.std.proofs.Common.{◌≡◌, ℕ, ap, rules}
+use Rattle.std.proofs.Common.{◌≡◌, ℕ, ap, refl, rules}
 use Rattle.floor_core.specs.Work.{Job, Work, carrying, decide_call}
 use Rattle.floor_core.specs.declared.parts.Got.{Got}
 use Rattle.floor_core.specs.declared.parts.Turn.TheVariants as turn
 use Rattle.books_shared.specs.Shares.{ShareView}
-use Rattle.workers.specs.Carrying.{Circumstances, WasCalled, WasExchanged, WentOn, growth}
+use Rattle.workers.specs.Carrying.{Circumstances, WasCalled, WasExchanged, WentOn, circumstances, growth}
 use Rattle.workers.specs.Replies.{Sending}
+use Rattle.workers.specs.declared.keeping.JournalPlace.{JournalPlace}
 use Rattle.one_list.specs.Steps.{done, done_by, next_place}
 use Rattle.workers.proofs.Elsewhere.{elsewhere, goes_on}
 use Rattle.workers.proofs.Growing.{called_roomy}
 use Rattle.workers.proofs.Sure.{is_own_call}
-use Rattle.workers.proofs.Whose.{unanswered}
+use Rattle.workers.proofs.Whose.{answered_so, called_by, decided_so, unanswered}
 use Rattle.workers.proofs.carrying.exchanged.Goals as goal
 
 -- a packet went on once room was made
-went_on : {under : Circumstances} (t peer hold : ℕ) (before waiting left : Work) (came : Got) (So : Sending → Type 0) (s roomy after : ShareView) → roomy ≡ record s { room = 2 }
-    → WasCalled under (growth t roomy after) (decide_call before) (turn.Send peer hold) waiting → WasExchanged t waiting came left So
+went_on : {under : Circumstances} (t peer hold : ℕ) (before waiting left : Work) (came : Got) (So : Sending → Type 0) (place : JournalPlace) (s roomy after : ShareView) → roomy ≡ record s { room = 2 }
+    → WasCalled under (growth t roomy after) (decide_call before) (turn.Send peer hold) waiting place → under.Keeps place → WasExchanged t waiting came left So
     → WentOn under (growth t s after) before came left So
-went_on {under} t peer hold before waiting left came So s roomy after is decided sent =
-    let called : WasCalled under (growth t s after) (decide_call before) (turn.Send peer hold) waiting = called_roomy (decide_call before) t (turn.Send peer hold) waiting s roomy after is decided in
+went_on {under} t peer hold before waiting left came So place s roomy after is decided kept sent =
+    let called : WasCalled under (growth t s after) (decide_call before) (turn.Send peer hold) waiting place = called_roomy (decide_call before) t (turn.Send peer hold) waiting place s roomy after is decided in
     let on = goes_on before called.found.book called.found.now peer hold called.told in
     let at = next_place called.found.book in
     record {
@@ -25,44 +26,84 @@ went_on {under} t peer hold before waiting left came So s roomy after is decided
       forwarded = record {
         peer = peer;
         hold = hold;
+        place = place;
         decided = called;
         step = done s.worker at on.verdict;
         made = ap (done_by s.worker at) on.made;
         begins = on.begins;
       };
+      kept = kept;
       sent = sent;
     }
 
 pub returns-in-Stranger-clause-carried : goal.returns-in-Stranger-clause-carried
-returns-in-Stranger-clause-carried g c =
-    called_roomy (decide_call c.args.slot.now) c.args.tenant turn.Stranger c.decide-turn.new.slot c.args.share.now c.make_room.new.self c.decide-turn.new.share
-    c.in-Ok.ensures.1 c.in-Stranger.ensures.decided
-
-pub returns-in-Reply-clause-carried : goal.returns-in-Reply-clause-carried
-returns-in-Reply-clause-carried g c =
-    called_roomy (decide_call c.args.slot.now) c.args.tenant turn.Reply c.decide-turn.new.slot c.args.share.now c.make_room.new.self c.decide-turn.new.share
-    c.in-Ok.ensures.1 c.in-Reply.ensures.decided
-
-pub returns-in-Reply-turn-clause-carried : goal.returns-in-Reply-turn-clause-carried
-returns-in-Reply-turn-clause-carried g c = record {
-  between = c.decide-turn.new.share;
-  answered = c.send-got.new.slot;
-  went = went_on c.args.tenant c.in-Send.peer c.in-Send.hold c.args.slot.now c.decide-turn.new.slot c.send-got.new.slot c.send-got.result (λ (sending : Sending). g.L.Link.sends_so c.args.link.now sending c.send-got.new.link) c.args.share.now c.make_room.new.self c.decide-turn.new.share
-      c.in-Ok.ensures.1 c.in-Send.ensures.decided c.send-got.ensures.exchanged;
-  settled = c.in-Reply-turn.ensures.answered;
+returns-in-Stranger-clause-carried g c = record {
+  place = c.decide-turn.result.1;
+  called = called_roomy (decide_call c.args.slot.now) c.args.tenant turn.Stranger c.decide-turn.new.slot c.decide-turn.result.1 c.args.share.now c.make_room.new.self c.decide-turn.new.share
+      c.in-Ok.ensures.1 (decided_so (circumstances g.J.Run.openings (g.C.Clock.gives c.args.tools.now.clock.now) (g.K.Keeping.keeps c.args.tools.now.keeping.now) (g.K.Keeping.fails c.args.tools.now.keeping.now)) c.decide-turn.result.0 turn.Stranger (growth c.args.tenant c.make_room.new.self c.decide-turn.new.share) c.args.slot.now c.decide-turn.new.slot c.decide-turn.result.1 c.in-Stranger.is c.decide-turn.ensures.decided);
+  kept = c.in-Ok-wait_for.ensures.kept;
 }
 
-pub returns-in_default : goal.returns-in_default
-returns-in_default g c =
+pub returns-in-Reply-clause-carried : goal.returns-in-Reply-clause-carried
+returns-in-Reply-clause-carried g c = record {
+  place = c.decide-turn.result.1;
+  called = called_roomy (decide_call c.args.slot.now) c.args.tenant turn.Reply c.decide-turn.new.slot c.decide-turn.result.1 c.args.share.now c.make_room.new.self c.decide-turn.new.share
+      c.in-Ok.ensures.1 (decided_so (circumstances g.J.Run.openings (g.C.Clock.gives c.args.tools.now.clock.now) (g.K.Keeping.keeps c.args.tools.now.keeping.now) (g.K.Keeping.fails c.args.tools.now.keeping.now)) c.decide-turn.result.0 turn.Reply (growth c.args.tenant c.make_room.new.self c.decide-turn.new.share) c.args.slot.now c.decide-turn.new.slot c.decide-turn.result.1 c.in-Reply.is c.decide-turn.ensures.decided);
+  kept = c.in-Ok-wait_for.ensures.kept;
+}
+
+pub returns-in_default-clause-carried : goal.returns-in_default-clause-carried
+returns-in_default-clause-carried g c = record {
+  told = c.decide-turn.result.0;
+  left = c.decide-turn.new.slot;
+  decided = record {
+    place = c.decide-turn.result.1;
+    called = called_roomy (decide_call c.args.slot.now) c.args.tenant c.decide-turn.result.0 c.decide-turn.new.slot c.decide-turn.result.1 c.args.share.now c.make_room.new.self c.decide-turn.new.share
+        c.in-Ok.ensures.1 (called_by {under = (circumstances g.J.Run.openings (g.C.Clock.gives c.args.tools.now.clock.now) (g.K.Keeping.keeps c.args.tools.now.keeping.now) (g.K.Keeping.fails c.args.tools.now.keeping.now))} c.decide-turn.result.0 (growth c.args.tenant c.make_room.new.self c.decide-turn.new.share) c.args.slot.now c.decide-turn.new.slot c.decide-turn.result.1 c.decide-turn.ensures.decided);
+    failed = c.in_default.ensures.failed;
+  };
+  cleared = refl;
+}
+
+pub returns-in-Ok-wait_for-2-clause-carried : goal.returns-in-Ok-wait_for-2-clause-carried
+returns-in-Ok-wait_for-2-clause-carried g c = record {
+  between = c.decide-turn.new.share;
+  answered = c.send-got.new.slot;
+  went = went_on {under = (circumstances g.J.Run.openings (g.C.Clock.gives c.args.tools.now.clock.now) (g.K.Keeping.keeps c.args.tools.now.keeping.now) (g.K.Keeping.fails c.args.tools.now.keeping.now))} c.args.tenant c.in-Send.peer c.in-Send.hold c.args.slot.now c.decide-turn.new.slot c.send-got.new.slot c.send-got.result (λ (sending : Sending). g.L.Link.sends_so c.args.link.now sending c.send-got.new.link) c.decide-turn.result.1 c.args.share.now c.make_room.new.self c.decide-turn.new.share
+      c.in-Ok.ensures.1 (decided_so (circumstances g.J.Run.openings (g.C.Clock.gives c.args.tools.now.clock.now) (g.K.Keeping.keeps c.args.tools.now.keeping.now) (g.K.Keeping.fails c.args.tools.now.keeping.now)) c.decide-turn.result.0 (turn.Send c.in-Send.peer c.in-Send.hold) (growth c.args.tenant c.make_room.new.self c.decide-turn.new.share) c.args.slot.now c.decide-turn.new.slot c.decide-turn.result.1 c.in-Send.is c.decide-turn.ensures.decided) c.in-Ok-wait_for.ensures.kept c.send-got.ensures.exchanged;
+  settled = record {
+    place = c.answer-turn.result.1;
+    called = answered_so (circumstances g.J.Run.openings (g.C.Clock.gives c.args.tools.now.clock.now) (g.K.Keeping.keeps c.args.tools.now.keeping.now) (g.K.Keeping.fails c.args.tools.now.keeping.now)) c.answer-turn.result.0 turn.Reply (growth c.args.tenant c.decide-turn.new.share c.answer-turn.new.share) c.send-got.result c.send-got.new.slot c.answer-turn.new.slot c.answer-turn.result.1 c.in-Reply-turn.is c.answer-turn.ensures.answered;
+    kept = c.in-Ok-wait_for-2.ensures.kept;
+  };
+}
+
+pub returns-in-Err-clause-carried : goal.returns-in-Err-clause-carried
+returns-in-Err-clause-carried g c = record {
+  between = c.decide-turn.new.share;
+  answered = c.send-got.new.slot;
+  went = went_on {under = (circumstances g.J.Run.openings (g.C.Clock.gives c.args.tools.now.clock.now) (g.K.Keeping.keeps c.args.tools.now.keeping.now) (g.K.Keeping.fails c.args.tools.now.keeping.now))} c.args.tenant c.in-Send.peer c.in-Send.hold c.args.slot.now c.decide-turn.new.slot c.send-got.new.slot c.send-got.result (λ (sending : Sending). g.L.Link.sends_so c.args.link.now sending c.send-got.new.link) c.decide-turn.result.1 c.args.share.now c.make_room.new.self c.decide-turn.new.share
+      c.in-Ok.ensures.1 (decided_so (circumstances g.J.Run.openings (g.C.Clock.gives c.args.tools.now.clock.now) (g.K.Keeping.keeps c.args.tools.now.keeping.now) (g.K.Keeping.fails c.args.tools.now.keeping.now)) c.decide-turn.result.0 (turn.Send c.in-Send.peer c.in-Send.hold) (growth c.args.tenant c.make_room.new.self c.decide-turn.new.share) c.args.slot.now c.decide-turn.new.slot c.decide-turn.result.1 c.in-Send.is c.decide-turn.ensures.decided) c.in-Ok-wait_for.ensures.kept c.send-got.ensures.exchanged;
+  left = c.answer-turn.new.slot;
+  settled = record {
+    place = c.answer-turn.result.1;
+    called = answered_so (circumstances g.J.Run.openings (g.C.Clock.gives c.args.tools.now.clock.now) (g.K.Keeping.keeps c.args.tools.now.keeping.now) (g.K.Keeping.fails c.args.tools.now.keeping.now)) c.answer-turn.result.0 turn.Reply (growth c.args.tenant c.decide-turn.new.share c.answer-turn.new.share) c.send-got.result c.send-got.new.slot c.answer-turn.new.slot c.answer-turn.result.1 c.in-Reply-turn.is c.answer-turn.ensures.answered;
+    failed = c.in-Err.ensures.failed;
+  };
+  cleared = refl;
+}
+
+pub returns-in_default-turn : goal.returns-in_default-turn
+returns-in_default-turn g c =
     let between = c.decide-turn.new.share in
-    let went = went_on c.args.tenant c.in-Send.peer c.in-Send.hold c.args.slot.now c.decide-turn.new.slot c.send-got.new.slot c.send-got.result (λ (sending : Sending). g.L.Link.sends_so c.args.link.now sending c.send-got.new.link) c.args.share.now c.make_room.new.self between
-    c.in-Ok.ensures.1 c.in-Send.ensures.decided c.send-got.ensures.exchanged in
-    let missed = unanswered c.answer-turn.result (growth c.args.tenant between c.answer-turn.new.share) c.send-got.result c.send-got.new.slot c.answer-turn.new.slot
-    c.in_default.not-Reply c.answer-turn.ensures.answered in
+    let went = went_on {under = (circumstances g.J.Run.openings (g.C.Clock.gives c.args.tools.now.clock.now) (g.K.Keeping.keeps c.args.tools.now.keeping.now) (g.K.Keeping.fails c.args.tools.now.keeping.now))} c.args.tenant c.in-Send.peer c.in-Send.hold c.args.slot.now c.decide-turn.new.slot c.send-got.new.slot c.send-got.result (λ (sending : Sending). g.L.Link.sends_so c.args.link.now sending c.send-got.new.link) c.decide-turn.result.1 c.args.share.now c.make_room.new.self c.decide-turn.new.share
+    c.in-Ok.ensures.1 (decided_so (circumstances g.J.Run.openings (g.C.Clock.gives c.args.tools.now.clock.now) (g.K.Keeping.keeps c.args.tools.now.keeping.now) (g.K.Keeping.fails c.args.tools.now.keeping.now)) c.decide-turn.result.0 (turn.Send c.in-Send.peer c.in-Send.hold) (growth c.args.tenant c.make_room.new.self c.decide-turn.new.share) c.args.slot.now c.decide-turn.new.slot c.decide-turn.result.1 c.in-Send.is c.decide-turn.ensures.decided) c.in-Ok-wait_for.ensures.kept c.send-got.ensures.exchanged in
+    let missed = unanswered {under = (circumstances g.J.Run.openings (g.C.Clock.gives c.args.tools.now.clock.now) (g.K.Keeping.keeps c.args.tools.now.keeping.now) (g.K.Keeping.fails c.args.tools.now.keeping.now))} c.answer-turn.result.0 (growth c.args.tenant between c.answer-turn.new.share) c.send-got.result c.send-got.new.slot c.answer-turn.new.slot c.answer-turn.result.1
+    c.in_default-turn.not-Reply c.answer-turn.ensures.answered in
     record {
       loaded = tt;
       memory = λ is. absurd cc;
-      lost = λ got own is. absurd (c.in_default.not-Reply (c.answer-turn.ensures.sure own));
+      lost = λ got own is. absurd (c.in_default-turn.not-Reply (c.answer-turn.ensures.sure own));
       spent = search rules;
       sends = c.send-got.ensures.sends;
       sent = c.send-got.ensures.sent;
@@ -79,4 +120,5 @@ returns-in_default g c =
 
 pub answer-turn-requires-clause-sent : goal.answer-turn-requires-clause-sent
 answer-turn-requires-clause-sent g c =
-    is_own_call c.args.tenant c.in-Send.peer c.in-Send.hold c.args.slot.now c.decide-turn.new.slot c.decide-turn.new.share c.make_room.new.self c.send-got.new.slot.job c.in-Send.ensures.decided c.send-got.ensures.job
+    is_own_call {under = (circumstances g.J.Run.openings (g.C.Clock.gives c.args.tools.now.clock.now) (g.K.Keeping.keeps c.args.tools.now.keeping.now) (g.K.Keeping.fails c.args.tools.now.keeping.now))} c.args.tenant c.in-Send.peer c.in-Send.hold c.args.slot.now c.decide-turn.new.slot c.decide-turn.new.share c.make_room.new.self c.send-got.new.slot.job c.decide-turn.result.1
+    (decided_so (circumstances g.J.Run.openings (g.C.Clock.gives c.args.tools.now.clock.now) (g.K.Keeping.keeps c.args.tools.now.keeping.now) (g.K.Keeping.fails c.args.tools.now.keeping.now)) c.decide-turn.result.0 (turn.Send c.in-Send.peer c.in-Send.hold) (growth c.args.tenant c.make_room.new.self c.decide-turn.new.share) c.args.slot.now c.decide-turn.new.slot c.decide-turn.result.1 c.in-Send.is c.decide-turn.ensures.decided) c.send-got.ensures.job

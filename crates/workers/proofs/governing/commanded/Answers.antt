@@ -1,11 +1,22 @@
-use Rattle.workers.specs.Carrying.{growth}
-use Rattle.workers.proofs.Growing.{was_commanded}
-use Rattle.workers.proofs.Whose.{is_done}
+use Rattle.std.specs.Prelude.{Ok, Err}
+use Rattle.workers.specs.Carrying.{circumstances}
+use Rattle.workers.proofs.Growing.{done_roomy, untold_roomy}
 use Rattle.workers.proofs.governing.commanded.Goals as goal
 
-pub returns-clause-done : goal.returns-clause-done
-returns-clause-done g c =
-    is_done c.command-answer.result c.map_err.result (growth c.args.tenant c.args.share.now c.command-answer.new.share) c.args.command.now c.map_err.ensures.cases
-    (was_commanded c.args.tenant c.enter-guard.result c.meet.new.self c.now.result c.args.command.now c.command-answer.result c.command-answer.new.self.state c.args.share.now c.make_room.new.share c.meet.new.share c.command-answer.new.share
-    c.meet.ensures.book c.in_ok-make_room.ensures.1 c.meet.ensures.share c.enter-guard.ensures.kept.sound c.enter-guard.ensures.led c.now.ensures c.enter-guard.ensures.own
-    c.meet.ensures.shared c.command-answer.ensures.answer c.command-answer.ensures.share)
+pub returns-in_default-clause-done : goal.returns-in_default-clause-done
+returns-in_default-clause-done g c =
+    untold_roomy {under = (circumstances g.J.Run.openings (g.C.Clock.gives c.args.tools.now.clock.now) (g.K.Keeping.keeps c.args.tools.now.keeping.now) (g.K.Keeping.fails c.args.tools.now.keeping.now))}
+    c.args.tenant c.args.command.now c.commanded_book-answer.result.0 c.commanded_book-answer.result.1 c.args.share.now c.make_room.new.share c.commanded_book-answer.new.share
+    c.in_ok-make_room.ensures.1 c.commanded_book-answer.ensures.commanded.0 c.commanded_book-answer.ensures.commanded.1 c.in_default.ensures.failed
+
+pub returns-in-Ok-answer-clause-done : goal.returns-in-Ok-answer-clause-done
+returns-in-Ok-answer-clause-done g c =
+    done_roomy {under = (circumstances g.J.Run.openings (g.C.Clock.gives c.args.tools.now.clock.now) (g.K.Keeping.keeps c.args.tools.now.keeping.now) (g.K.Keeping.fails c.args.tools.now.keeping.now))}
+    c.args.tenant c.args.command.now c.commanded_book-answer.result.0 (Ok c.in-Ok-answer.answered) c.commanded_book-answer.result.1 c.args.share.now c.make_room.new.share c.commanded_book-answer.new.share
+    c.in-Ok-answer.is c.in_ok-make_room.ensures.1 c.commanded_book-answer.ensures.commanded.0 c.commanded_book-answer.ensures.commanded.1 c.in-Ok.ensures.kept
+
+pub returns-in-Err-clause-done : goal.returns-in-Err-clause-done
+returns-in-Err-clause-done g c =
+    done_roomy {under = (circumstances g.J.Run.openings (g.C.Clock.gives c.args.tools.now.clock.now) (g.K.Keeping.keeps c.args.tools.now.keeping.now) (g.K.Keeping.fails c.args.tools.now.keeping.now))}
+    c.args.tenant c.args.command.now c.commanded_book-answer.result.0 (Err c.in-Err.fault) c.commanded_book-answer.result.1 c.args.share.now c.make_room.new.share c.commanded_book-answer.new.share
+    c.in-Err.is c.in_ok-make_room.ensures.1 c.commanded_book-answer.ensures.commanded.0 c.commanded_book-answer.ensures.commanded.1 c.in-Ok.ensures.kept

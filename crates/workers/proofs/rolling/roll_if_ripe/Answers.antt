@@ -1,23 +1,28 @@
-use Rattle.std.proofs.Common.{◌∙◌, ap, sym}
+use Rattle.std.proofs.Common.{refl}
 use Rattle.std.specs.Prelude.{Ok, Err}
-use Rattle.workers.specs.Rolling.{is_ripe}
-use Rattle.workers.proofs.Growing.{was_ripe, was_unripe}
+use Rattle.workers.specs.Carrying.{circumstances}
+use Rattle.workers.proofs.Growing.{rolled_roomy, rolled_untold, unripe_roomy}
 use Rattle.workers.proofs.rolling.roll_if_ripe.Goals as goal
 
-pub returns-then-not-is_ripe-clause-rolled : goal.returns-then-not-is_ripe-clause-rolled
-returns-then-not-is_ripe-clause-rolled g c =
-    was_unripe c.args.tenant c.args.percent c.enter-guard.result c.meet.new.self c.now-now.result c.args.share.now c.make_room.new.share c.meet.new.share
-    c.meet.ensures.book c.in_ok-make_room.ensures.1 c.meet.ensures.share c.enter-guard.ensures.kept.sound c.enter-guard.ensures.led c.now-now.ensures c.enter-guard.ensures.own
-    c.meet.ensures.shared (ap (is_ripe c.args.percent) (sym c.book.ensures.book) ∙ (sym c.is_ripe.ensures ∙ search))
+pub returns-in_default-clause-rolled : goal.returns-in_default-clause-rolled
+returns-in_default-clause-rolled g c =
+    unripe_roomy {under = (circumstances g.J.Run.openings (g.C.Clock.gives c.args.tools.now.clock.now) (g.K.Keeping.keeps c.args.tools.now.keeping.now) (g.K.Keeping.fails c.args.tools.now.keeping.now))}
+    c.args.tenant c.args.percent c.args.share.now c.make_room.new.share c.rolled_book.new.share c.in_ok-make_room.ensures.1 (c.in_default.ensures.unripe refl)
 
-pub returns-in-Ok-clause-rolled : goal.returns-in-Ok-clause-rolled
-returns-in-Ok-clause-rolled g c =
-    was_ripe c.args.tenant c.args.percent c.enter-guard.result c.meet.new.self c.now-now.result c.command.result (Ok c.in-Ok.answered) c.command.new.self.state c.args.share.now c.make_room.new.share c.meet.new.share c.command.new.share
-    c.in-Ok.is c.meet.ensures.book c.in_ok-make_room.ensures.1 c.meet.ensures.share c.enter-guard.ensures.kept.sound c.enter-guard.ensures.led c.now-now.ensures c.enter-guard.ensures.own
-    c.meet.ensures.shared c.command.ensures.answer c.command.ensures.share (ap (is_ripe c.args.percent) (sym c.book.ensures.book) ∙ (sym c.is_ripe.ensures ∙ search))
+pub returns-in_default-wait_for-clause-rolled : goal.returns-in_default-wait_for-clause-rolled
+returns-in_default-wait_for-clause-rolled g c =
+    rolled_untold {under = (circumstances g.J.Run.openings (g.C.Clock.gives c.args.tools.now.clock.now) (g.K.Keeping.keeps c.args.tools.now.keeping.now) (g.K.Keeping.fails c.args.tools.now.keeping.now))}
+    c.args.tenant c.args.percent c.in-Some.answer c.in-Some.place c.args.share.now c.make_room.new.share c.rolled_book.new.share
+    c.in_ok-make_room.ensures.1 c.in-Some.ensures.ripe.0 c.in-Some.ensures.ripe.1 c.in_default-wait_for.ensures.failed
 
-pub returns-clause-rolled : goal.returns-clause-rolled
-returns-clause-rolled g c =
-    was_ripe c.args.tenant c.args.percent c.enter-guard.result c.meet.new.self c.now-now.result c.command.result (Err c.in-Err.fault) c.command.new.self.state c.args.share.now c.make_room.new.share c.meet.new.share c.command.new.share
-    c.in-Err.is c.meet.ensures.book c.in_ok-make_room.ensures.1 c.meet.ensures.share c.enter-guard.ensures.kept.sound c.enter-guard.ensures.led c.now-now.ensures c.enter-guard.ensures.own
-    c.meet.ensures.shared c.command.ensures.answer c.command.ensures.share (ap (is_ripe c.args.percent) (sym c.book.ensures.book) ∙ (sym c.is_ripe.ensures ∙ search))
+pub returns-in-Ok-answer-clause-rolled : goal.returns-in-Ok-answer-clause-rolled
+returns-in-Ok-answer-clause-rolled g c =
+    rolled_roomy {under = (circumstances g.J.Run.openings (g.C.Clock.gives c.args.tools.now.clock.now) (g.K.Keeping.keeps c.args.tools.now.keeping.now) (g.K.Keeping.fails c.args.tools.now.keeping.now))}
+    c.args.tenant c.args.percent c.in-Some.answer (Ok c.in-Ok-answer.answered) c.in-Some.place c.args.share.now c.make_room.new.share c.rolled_book.new.share
+    c.in-Ok-answer.is c.in_ok-make_room.ensures.1 c.in-Some.ensures.ripe.0 c.in-Some.ensures.ripe.1 c.in-Ok.ensures.kept
+
+pub returns-in-Err-clause-rolled : goal.returns-in-Err-clause-rolled
+returns-in-Err-clause-rolled g c =
+    rolled_roomy {under = (circumstances g.J.Run.openings (g.C.Clock.gives c.args.tools.now.clock.now) (g.K.Keeping.keeps c.args.tools.now.keeping.now) (g.K.Keeping.fails c.args.tools.now.keeping.now))}
+    c.args.tenant c.args.percent c.in-Some.answer (Err c.in-Err.fault) c.in-Some.place c.args.share.now c.make_room.new.share c.rolled_book.new.share
+    c.in-Err.is c.in_ok-make_room.ensures.1 c.in-Some.ensures.ripe.0 c.in-Some.ensures.ripe.1 c.in-Ok.ensures.kept

@@ -4,4 +4,4 @@ use Rattle.service.specs.Extents.{desk_count}
 use Rattle.service.proofs.running.serving.serve.Given as goal
 
 abbrev pub ghosts-serve_run : goal.ghosts-serve_run
-ghosts-serve_run g a = run_of a.opened.table a.setup.now (desk_count a.plan.extent.connections (is_some a.doors.operators))
+ghosts-serve_run g a = run_of a.opened.table a.start.openings.now (desk_count a.plan.extent.connections (is_some a.doors.operators))

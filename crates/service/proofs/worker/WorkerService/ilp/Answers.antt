@@ -7,7 +7,7 @@ pub returns : goal.returns
 returns g c =
     let there : nat_lt c.args.tenant c.args.self.now.office.now.books.tenants ≡ true = search (rules, tests) in
     let h = c.carry.ensures.carried in
-    let carried : WasCarried (g.C.Clock.gives c.system-system.result.clock.now) c.args.self.now.desk c.args.tenant c.args.token.now c.args.body.now c.carry.result c.carry.new.self = record {
+    let carried : WasCarried (g.C.Clock.gives c.system-system.result.clock.now) c.args.self.now.office.now c.args.self.now.desk c.args.tenant c.args.token.now c.args.body.now c.carry.result c.carry.new.self = record {
       reply = h.reply;
       status = h.status;
       nameless = h.nameless;

@@ -4,7 +4,7 @@ use Rattle.tenant_core.specs.State.{State}
 use Rattle.service.specs.Explaining.{explanation}
 use Rattle.service.specs.Operating.{IsExplained}
 use Rattle.service.specs.Questions.{question_at}
-use Rattle.service.proofs.operators.answering.ConsultedOperated.explain.Goals as goal
+use Rattle.service.proofs.operators.answering.Consulted.explained.Goals as goal
 
 pub returns : goal.returns
 returns g c =

@@ -4,7 +4,7 @@ use Rattle.tenant_core.specs.State.{State}
 use Rattle.service.specs.Metrics.{statements_text, tenants_text}
 use Rattle.service.specs.PeerMetrics.{IsPeersOf}
 use Rattle.service.specs.declared.host.metrics.TenantCounts.{TenantCounts}
-use Rattle.service.proofs.operators.answering.ConsultedOperated.metrics.Goals as goal
+use Rattle.service.proofs.operators.answering.Consulted.measured.Goals as goal
 
 pub returns-clause-told : goal.returns-clause-told
 returns-clause-told g c =

@@ -1,0 +1,88 @@
+//! Who keeps what is done to the books, before anything of it leaves.
+
+ghost use Rattle.std.specs.Prelude.{◌≡◌, OnErr, OnOk, false};
+ghost use Rattle.workers.specs.Keeping.{place_after};
+ghost use Rattle.workers.specs.declared.keeping.JournalPlace.{JournalPlace as Place};
+
+use tenant_core::{Book, Period};
+use thiserror::Error;
+
+/// A place in a tenant's journal: after so many records of the period of that number.
+#[derive(Clone, Copy, Debug, PartialEq, Eq)]
+pub struct JournalPlace {
+    pub tenant: usize,
+    pub period: u64,
+    pub number: u64,
+}
+
+/// It is not known whether what was done is kept.
+#[derive(Clone, Copy, Debug, PartialEq, Eq, Error)]
+#[error("not known to be kept")]
+pub struct NotKept;
+
+/// Who keeps what is done to the books, so that it outlives the process.
+pub trait Keeping {
+    /// That all records of a tenant before that place are kept.
+    ghost keeps: { Self → Place → Type 0 };
+
+    /// That it may have no room, or fail.
+    ghost fails: { Self → Type 0 };
+
+    /// Whether there is room for what one packet or one command of the tenant more may record. Nothing is recorded without it.
+    fn has_room(&self, tenant: usize) -> bool
+        ensures { result ≡ false → fails self.now };
+
+    /// A roll has just closed that period. The lock of the tenant's book is held.
+    fn note_closed(&self, period: &Period);
+
+    /// Waits until all records of a tenant before that place are kept. No lock is held meanwhile.
+    ///
+    /// `NotKept` if it has failed. Then nothing more is kept.
+    fn wait(&self, place: JournalPlace) -> Result<(), NotKept>
+        ensures kept { OnOk result (keeps self.now place) }
+        ensures failed { OnErr result (fails self.now) };
+}
+
+/// Who keeps nothing: what was done is gone with the process.
+#[derive(Clone, Copy, Debug, PartialEq, Eq)]
+pub struct NothingKept;
+
+impl Keeping for NothingKept {
+    ghost keeps = { λ _ _. Unit {0} };
+
+    ghost fails = { λ _. ⊥ };
+
+    fn has_room(&self, _tenant: usize) -> bool {
+        true
+    }
+
+    fn note_closed(&self, _period: &Period) {}
+
+    fn wait(&self, _place: JournalPlace) -> Result<(), NotKept> {
+        Ok(())
+    }
+}
+
+/// Evidence that what led to something is kept, so that it may leave. Only a wait gives it.
+#[derive(Drop)]
+pub struct Durable(());
+
+/// Waits until all records of a tenant before that place are kept.
+pub(crate) fn wait_for<K: Keeping>(keeping: &K, place: JournalPlace) -> Result<Durable, NotKept>
+    ensures kept { OnOk result (K.keeps keeping.now place) }
+    ensures failed { OnErr result (K.fails keeping.now) }
+{
+    keeping.wait(place)?;
+    Ok(Durable(()))
+}
+
+/// The place after the last record of a book.
+pub fn place_after(book: &Book) -> JournalPlace
+    ensures { result ≡ place_after book.now }
+{
+    JournalPlace {
+        tenant: book.tenant(),
+        period: book.period(),
+        number: book.entries() as u64,
+    }
+}
