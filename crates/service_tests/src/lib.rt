@@ -1,13 +1,11 @@
-//! Tests with threads, of workers and of the service on loopback; and of the command line, of what the subcommands say, and of exit
-//! statuses. The crate has only tests: a crate with tests is proved twice, so the crates below have none of their own.
+//! Tests of the service on loopback, with threads; and of the command line, of what the subcommands say, and of exit statuses. The
+//! crate has only tests: a crate with tests is proved twice, so the crates below have none of their own.
 #![tactic(auto)]
 
 #[cfg(test)]
 mod commands;
 #[cfg(test)]
 mod serving;
-#[cfg(test)]
-mod working;
 
 // 2030-01-01T00:00:00Z, when books begin.
 #[cfg(test)]

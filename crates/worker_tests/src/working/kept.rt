@@ -1,6 +1,6 @@
 //! What a worker waits for before anything leaves.
 
-use super::{FixedClock, Team, Trial, come_to, entries_of, filled, on_two_books, start};
+use super::{FixedClock, Open, Team, Trial, come_to, entries_of, filled, on_two_books, start};
 use floor_core::{Got, Slot};
 use meters::Meters;
 use one_list::Run;
@@ -11,8 +11,7 @@ use std::test::Fail;
 use tenant_core::{Command, Period};
 use test_texts::frame;
 use workers::{
-    Gate, GovernFault, Job, JournalPlace, Keeping, Link, NotKept, Outgoing, Point, Reply, Tools,
-    carry, govern,
+    GovernFault, Job, JournalPlace, Keeping, Link, NotKept, Outgoing, Reply, Tools, carry, govern,
 };
 
 /// One who keeps what is done, and notes what is asked of it. It has room or not, and fails from some call on.
@@ -73,13 +72,6 @@ impl Watching {
             self.number.load(Ordering::SeqCst),
         )
     }
-}
-
-/// A gate that is open.
-struct Open;
-
-impl Gate for Open {
-    fn pass(&self, _worker: usize, _point: Point) {}
 }
 
 /// A link that looks after which wait it is asked.

@@ -26,7 +26,7 @@ use std::sync::Wait;
 use std::test::Fail;
 use tenant_core::{Book, TenantSetup};
 use test_texts::{PEER, RATE, ROUTE, TENANT, setup_with};
-use workers::Clock;
+use workers::{Clock, Gate, Point};
 
 // ---- what there is
 
@@ -131,6 +131,14 @@ impl Clock for FixedClock {
     fn now(&self) -> Moment {
         self.0
     }
+}
+
+/// A gate that is open.
+#[derive(Clone, Copy)]
+struct Open;
+
+impl Gate for Open {
+    fn pass(&self, _worker: usize, _point: Point) {}
 }
 
 // What comes back to a link: these bytes, at the front of the room.

@@ -11,9 +11,9 @@ use Rattle.one_list.proofs.parts.WorkerPart.TheSendSync as of_part
 use Rattle.receipts.proofs.ledger.Ledger.TheSendSync as of_ledger
 use Rattle.books_shared.specs.contracts.books.Books as Books
 use Rattle.books_shared.specs.contracts.share.Share as Share
-use Rattle.service_tests.specs.contracts.working.together.Carrier as Carrier
-use Rattle.service_tests.specs.contracts.working.together.Meeting as Meeting
-use Rattle.service_tests.proofs.working.together.work_all.Goals as goal
+use Rattle.worker_tests.specs.contracts.working.together.Carrier as Carrier
+use Rattle.worker_tests.specs.contracts.working.together.Meeting as Meeting
+use Rattle.worker_tests.proofs.working.together.work_all.Goals as goal
 
 share_send : (J : RattleType) (r : Run.Ghosts J.Denot) → IsSend (Share.the_row J r)
 share_send J r = search (sendable, std.crosses, of_part.the_send, of_ledger.the_send) depth 40

@@ -1,7 +1,7 @@
 //! Packets that one worker carries.
 
 use super::{
-    ONE_ANSWERED, Tally, Team, Trial, come_to, counts_of, entries_of, filled, gathered,
+    ONE_ANSWERED, Open, Tally, Team, Trial, come_to, counts_of, entries_of, filled, gathered,
     on_two_books,
 };
 use crate::START;
@@ -16,7 +16,7 @@ use std::sync::atomic::{AtomicU64, Ordering};
 use std::test::Fail;
 use tenant_core::{Book, PeerNo, RejectCode};
 use test_texts::frame;
-use workers::{Clock, Gate, Job, Link, NothingKept, Outgoing, Point, Reply, Tools, carry};
+use workers::{Clock, Job, Link, NothingKept, Outgoing, Reply, Tools, carry};
 
 // The URL for bob's packets.
 const BOB_URL: &[u8] = b"http://127.0.0.1:7802/ilp";
@@ -175,14 +175,6 @@ impl Clock for Going {
         let millis = self.next.fetch_add(self.step, Ordering::SeqCst);
         Moment::new(millis.min(Moment::MAX_MILLIS)).unwrap_or_else(|| unreachable!())
     }
-}
-
-/// A gate that is open.
-#[derive(Clone, Copy)]
-struct Open;
-
-impl Gate for Open {
-    fn pass(&self, _worker: usize, _point: Point) {}
 }
 
 /// A link that looks at what it is given, and has an answer for it or nothing.
