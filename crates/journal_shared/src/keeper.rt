@@ -1,0 +1,160 @@
+//! Who keeps what is done to the books.
+
+ghost use Rattle.std.specs.Prelude.{◌≡◌, [], is_some, true, IfOk, OnErr, OnOk};
+ghost use Rattle.journal_shared.specs.Kept.{AreAppended, AreLinesOfAll, IsKept, IsKeptIn};
+ghost use Rattle.journal_shared.specs.Progress.{IsReady};
+ghost use Rattle.workers.specs.declared.keeping.JournalPlace.{JournalPlace as Place};
+
+use crate::pen::Pen;
+use crate::shared::SharedJournal;
+use book_journal::CommitFault;
+use book_log::LinePlace;
+use books_shared::Books;
+use line_log::LogFile;
+use one_list::Run;
+use std::sync::atomic::Ordering;
+use std::sync::{Condvar, Wait};
+use tenant_core::Period;
+use workers::{JournalPlace, Keeping, NotKept, place_after};
+
+/// Who keeps what is done to the books: in the journal on disk, if there is one, and otherwise nowhere.
+#[derive(Drop)]
+pub struct Keeper<'a, H, D: LogFile, J: Run> {
+    pub handle: &'a H,
+    pub books: &'a Books<J>,
+    pub journal: &'a Option<SharedJournal<D, J>>,
+}
+
+impl<H: Wait, D: LogFile + Drop, J: Run> Keeper<'_, H, D, J> {
+    // Appends lines of what the book of a tenant has got, from that place on. That is the place after them. The book's lock is held
+    // meanwhile.
+    fn note(
+        &self,
+        journal: &SharedJournal<D, J>,
+        from: LinePlace,
+        lines: &mut Vec<u8>,
+    ) -> Result<LinePlace, CommitFault>
+        ensures { IfOk result (λ to. AreAppended J.openings from lines.old.items lines.new.items to) }
+    {
+        let Some(notes) = journal.notes.get(from.tenant) else {
+            return Err(CommitFault::Tenants);
+        };
+        if from.tenant >= self.books.tenants() {
+            return Err(CommitFault::Tenants);
+        }
+        let guard = self.books.enter(self.handle, from.tenant);
+        let mut notes = notes.lock(self.handle);
+        notes.note(&guard)?;
+        notes.take(from, lines)
+    }
+
+    // Puts what the books of all tenants have got into what is written next.
+    fn note_all(&self, journal: &SharedJournal<D, J>, pen: &mut Pen<D>) -> Result<(), CommitFault>
+        requires none { pen.old.lines.items ≡ [] }
+        ensures lines { OnOk result (AreLinesOfAll J.openings pen.old.places.items pen.new.lines.items pen.new.next.items) }
+        ensures writer { pen.new.writer ≡ pen.old.writer }
+        ensures places { pen.new.places ≡ pen.old.places }
+    {
+        pen.next.clear();
+        for tenant in 0..pen.places.len() {
+            let to = self.note(journal, pen.places[tenant], &mut pen.lines)?;
+            if pen.next.push(to).is_err() {
+                return Err(CommitFault::Memory);
+            }
+        }
+        Ok(())
+    }
+
+    // Writes what the books of all tenants have got, and syncs it.
+    fn write(&self, journal: &SharedJournal<D, J>, pen: &mut Pen<D>) -> Result<(), CommitFault>
+        requires ready { IsReady D.seen D.may_leave J.openings pen.old }
+        ensures ready { OnOk result (IsReady D.seen D.may_leave J.openings pen.new) }
+    {
+        let written = match self.note_all(journal, pen) {
+            Ok(()) => pen.commit::<J>(),
+            Err(fault) => Err(fault),
+        };
+        journal.left.store(pen.left(), Ordering::SeqCst);
+        if written.is_err() {
+            journal.has_failed.store(true, Ordering::SeqCst);
+        }
+        written
+    }
+
+    // Waits until all records of a tenant before a place are kept, or nothing more is, and writes them if nobody else does.
+    fn wait_in(&self, journal: &SharedJournal<D, J>, bell: &Condvar, place: JournalPlace) -> bool
+        ensures { result ≡ true → IsKept D.seen D.may_leave J.openings place }
+    {
+        let mut progress = journal.progress.lock(self.handle);
+        for _ in self.handle.forever() {
+            if progress.has_failed() {
+                return false;
+            }
+            if progress.has(place) {
+                return true;
+            }
+            match progress.take_pen() {
+                None => progress = bell.wait(self.handle, progress),
+                Some(mut pen) => {
+                    drop(progress);
+                    let written = self.write(journal, &mut pen);
+                    progress = journal.progress.lock(self.handle);
+                    match written {
+                        Ok(()) => progress.put_back(pen),
+                        Err(_) => progress.fail(),
+                    }
+                    for bell in &journal.bells {
+                        bell.notify_all();
+                    }
+                }
+            }
+        }
+        unreachable!()
+    }
+
+    /// Waits until all that was done to all books until now is kept.
+    pub fn settle(&self) -> Result<(), NotKept> {
+        if self.journal.is_none() {
+            return Ok(());
+        }
+        for tenant in 0..self.books.tenants() {
+            let place = place_after(self.books.enter(self.handle, tenant).book());
+            self.wait(place)?;
+        }
+        Ok(())
+    }
+}
+
+impl<H: Wait, D: LogFile + Drop, J: Run> Keeping for Keeper<'_, H, D, J> {
+    ghost keeps = { λ k place. IsKeptIn D.seen D.may_leave J.openings k.journal.now place };
+
+    ghost fails = { λ k. is_some k.journal.now ≡ true };
+
+    fn has_room(&self, _tenant: usize) -> bool {
+        match self.journal {
+            Some(journal) => journal.has_room(),
+            None => true,
+        }
+    }
+
+    // If it is out of memory, the notes are spoilt, and nothing more is kept.
+    fn note_closed(&self, period: &Period) {
+        let Some(journal) = self.journal else {
+            return;
+        };
+        if let Some(notes) = journal.notes.get(period.tenant()) {
+            let _ = notes.lock(self.handle).note_closed(period);
+        }
+    }
+
+    fn wait(&self, place: JournalPlace) -> Result<(), NotKept> {
+        let Some(journal) = self.journal else {
+            return Ok(());
+        };
+        let is_kept = match journal.bells.get(place.tenant) {
+            Some(bell) => self.wait_in(journal, bell, place),
+            None => false,
+        };
+        if is_kept { Ok(()) } else { Err(NotKept) }
+    }
+}
