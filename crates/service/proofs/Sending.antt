@@ -33,12 +33,9 @@ use Rattle.service.specs.contracts.filing.Filing as Filing
 use Rattle.service.specs.contracts.filing.scribe.Scribe as Scribe
 use Rattle.service.specs.contracts.operators.answering.Operators as Operators
 use Rattle.service.specs.contracts.host.callers.Porter as Porter
-use Rattle.service.specs.contracts.journal.DiskJournal as DiskJournal
-use Rattle.service.specs.contracts.journal.Pen as Pen
-use Rattle.service.specs.contracts.journal.Progress as Progress
-use Rattle.book_journal.specs.contracts.notes.Notes as Notes
+use Rattle.journal_shared.specs.contracts.shared.SharedJournal as SharedJournal
 use Rattle.log_folder.specs.contracts.disk_file.DiskFile as DiskFile
-use Rattle.log_folder.proofs.history.History.TheSendSync as of_history
+use Rattle.log_folder.specs.contracts.disk_file.DiskFileLogFile.TheImpl as DiskLog
 
 opening_send : IsSend Network.the_row → IsSend Opening.the_field.row
 opening_send network = struct_send (shape Opening.the_type) (
@@ -108,36 +105,13 @@ filing_sync network =
     let fields = struct_sync (shape Filing.the_type) (search (sendable, std.crosses) depth 40, (backlog_sync network, tt)) in
     search (recorded_sync, fields) depth 10
 
-notes_send : IsSend Notes.the_row
-notes_send = search (sendable, std.crosses) depth 40
-
-file_send : IsSend DiskFile.the_row
-file_send = search (sendable, std.crosses, of_history.the_send) depth 40
-
-pen_send : IsSend Pen.the_row
-pen_send = search (sendable, std.crosses, file_send) depth 60
-
-progress_send : IsSend Progress.the_row
-progress_send = search (sendable, std.crosses, pen_send) depth 40
-
-journal_sync : IsSync DiskJournal.the_row
-journal_sync =
-    let fields = struct_sync (shape DiskJournal.the_type) (
-      search (sendable, std.crosses, notes_send) depth 40,
-      (
-        search (sendable, std.crosses, progress_send) depth 40,
-        (search (sendable, std.crosses) depth 40, (search (sendable, std.crosses) depth 40, (search (sendable, std.crosses) depth 40, tt))),
-      ),
-    ) in
-    search (recorded_sync, fields) depth 10
-
 pub office_sync : (J : RattleType) (r : Run.Ghosts J.Denot) → IsSync (Books.the_row J r) → IsSync Meters.the_row
-    → IsSend Network.the_row → IsSync (Office.the_row J r)
-office_sync J r books meters network =
+    → IsSend Network.the_row → IsSync (SharedJournal.the_row DiskFile.the_row J DiskLog.ghosts r) → IsSync (Office.the_row J r)
+office_sync J r books meters network journal =
     let filing = filing_sync network in
     let fields = struct_sync (shape (Office.the_type J r)) (
       search (sendable, std.crosses, name_sync) depth 40,
-      (search (sendable, std.crosses, terms_sync) depth 40, (books, (meters, (places_sync, (door_sync, (search (sendable, std.crosses, filing) depth 40, (search (sendable, std.crosses, journal_sync) depth 40, (search (sendable, std.crosses) depth 40, (search (sendable, std.crosses) depth 40, (search (sendable, std.crosses) depth 40, (search (sendable, std.crosses) depth 40, tt))))))))))),
+      (search (sendable, std.crosses, terms_sync) depth 40, (books, (meters, (places_sync, (door_sync, (search (sendable, std.crosses, filing) depth 40, (search (sendable, std.crosses, journal) depth 40, (search (sendable, std.crosses) depth 40, (search (sendable, std.crosses) depth 40, (search (sendable, std.crosses) depth 40, (search (sendable, std.crosses) depth 40, tt))))))))))),
     ) in
     search (recorded_sync, fields) depth 10
 

@@ -4,7 +4,6 @@
 //!   others.
 //! - `worker`: what one worker does on its thread: it serves connections, carries packets and obeys commands.
 //! - `link`: the way out to the next peers.
-//! - `journal`: what is done to the books, kept on disk before anything of it leaves.
 //! - `filing`: the statements of closed periods: where they are kept, and which could not be written.
 //! - `host`: the host's door: who waits there, and the answers that the host gets.
 //! - `operators`: the operators' door: what an operator may ask about its tenant, its commands, and the answers.
@@ -16,7 +15,6 @@
 mod connection;
 mod filing;
 mod host;
-mod journal;
 mod link;
 mod office;
 mod operators;

@@ -7,10 +7,11 @@ pub mod asked;
 
 use crate::connection::door::Door;
 use crate::filing::Filing;
-use crate::journal::{DiskJournal, Keeper};
 use books_shared::Books;
 use common_types::{Name, Token};
 use ilp_addr::Moment;
+use journal_shared::{Keeper, SharedJournal};
+use log_folder::DiskFile;
 use meters::Meters;
 use one_list::Run;
 use std::alloc::AllocError;
@@ -42,7 +43,7 @@ pub struct Office<J: Run> {
     /// Where the statements of closed periods are kept, if they are.
     pub filing: Option<Filing>,
     /// The journal on disk of what is done to the books, if one is kept.
-    pub journal: Option<DiskJournal>,
+    pub journal: Option<SharedJournal<DiskFile, J>>,
     /// At how many hundredths of its entries a tenant's period is closed by itself, if it is.
     pub roll_at: Option<u8>,
     /// How many commands came for each tenant under a token that is not its operator's.
@@ -58,7 +59,7 @@ pub struct Office<J: Run> {
 
 impl<J: Run> Office<J> {
     /// Who keeps what is done to the books.
-    pub fn keeper<'a, H>(&'a self, handle: &'a H) -> Keeper<'a, H, J>
+    pub fn keeper<'a, H>(&'a self, handle: &'a H) -> Keeper<'a, H, DiskFile, J>
         ensures { result.journal.now ≡ self.now.journal }
     {
         Keeper {

@@ -12,7 +12,6 @@ ghost use Rattle.service.specs.Answering.{IsUncounted, IsOfficeOf};
 
 use crate::connection::door::Door;
 use crate::filing::Filing;
-use crate::journal::DiskJournal;
 use crate::office::{Office, Terms};
 use crate::running::ending::ServeFault;
 use crate::running::plan::{Extent, Plan, most_waiting_of, total_of};
@@ -20,6 +19,7 @@ use admin_text::Setup;
 use book_journal::LogWriter;
 use books_shared::{Books, Share};
 use common_types::ReadError;
+use journal_shared::SharedJournal;
 use log_folder::DiskFile;
 use meters::{MeterSeat, Meters};
 use one_list::{Opened, Run};
@@ -28,6 +28,9 @@ use std::sync::atomic::AtomicU64;
 use std::time::Instant;
 use tenant_core::{Opening, TenantSetup};
 use workers::{Backlog, Places};
+
+/// As many bytes of the log are left free for what is under way: two records of the longest for each connection.
+const RESERVE: u64 = 16_777_216;
 
 /// What a service is given to begin with.
 #[derive(Drop)]
@@ -138,15 +141,16 @@ fn begun_books<J: Run>(
 }
 
 // The journal that is written so, of tenants that begin so.
-fn journal_of(
+fn journal_of<J: Run>(
     alloc: Global,
     writer: Option<LogWriter<DiskFile>>,
     openings: &[Opening],
-) -> Result<Option<DiskJournal>, AllocError>
+) -> Result<Option<SharedJournal<DiskFile, J>>, AllocError>
+    requires { J.openings ≡ openings.now }
     ensures { IfOk result (λ journal. is_some journal ≡ is_some writer) }
 {
     match writer {
-        Some(writer) => Ok(Some(DiskJournal::new(alloc, writer, openings)?)),
+        Some(writer) => Ok(Some(SharedJournal::new(alloc, writer, openings, RESERVE)?)),
         None => Ok(None),
     }
 }

@@ -422,6 +422,7 @@ fn work_all<
     meters::laws::meters_are_shared();
     books_shared::laws::books_are_shared::<J>();
     books_shared::laws::networks_cross();
+    journal_shared::laws::journals_are_shared::<J>();
     match run_beside(system.handle, &office.door, lanes, host, operators, scribe) {
         Ok(()) => Ok(()),
         Err(_) => Err(ServeFault::Device),

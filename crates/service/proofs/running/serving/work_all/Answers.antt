@@ -13,7 +13,7 @@ use Rattle.service.proofs.running.serving.work_all.Goals as goal
 
 pub run_beside-requires-send-W : goal.run_beside-requires-send-W
 run_beside-requires-send-W g c κs within =
-    let office = office_sync (param 0 g.row.J) g.J.Run c.books_are_shared.ensures c.meters_are_shared.ensures.shared c.networks_cross.ensures in
+    let office = office_sync (param 0 g.row.J) g.J.Run c.books_are_shared.ensures c.meters_are_shared.ensures.shared c.networks_cross.ensures c.journals_are_shared.ensures in
     let seat = c.meters_are_shared.ensures.sent in
     let lane : (κ : NamedLft) → IsSend (Worker.the_row κ (param 1 g.row.H) (param 2 g.row.C) (param 0 g.row.J) g.J.Run)
     = λ κ. worker_send κ (param 1 g.row.H) (param 2 g.row.C) (param 0 g.row.J) g.J.Run c.type_bounds.sync-H c.type_bounds.sync-C office
@@ -22,7 +22,7 @@ run_beside-requires-send-W g c κs within =
 
 pub run_beside-requires-send-B : goal.run_beside-requires-send-B
 run_beside-requires-send-B g c κs within =
-    let office = office_sync (param 0 g.row.J) g.J.Run c.books_are_shared.ensures c.meters_are_shared.ensures.shared c.networks_cross.ensures in
+    let office = office_sync (param 0 g.row.J) g.J.Run c.books_are_shared.ensures c.meters_are_shared.ensures.shared c.networks_cross.ensures c.journals_are_shared.ensures in
     let seat = c.meters_are_shared.ensures.sent in
     let operators : (κ : NamedLft) → IsSend (Operators.the_row κ (param 1 g.row.H) (param 2 g.row.C) (param 0 g.row.J) g.J.Run)
     = λ κ. operators_send κ (param 1 g.row.H) (param 2 g.row.C) (param 0 g.row.J) g.J.Run c.type_bounds.sync-H c.type_bounds.sync-C office c.networks_cross.ensures seat in
@@ -32,7 +32,7 @@ run_beside-requires-send-B g c κs within =
 
 pub run_beside-requires-send-C : goal.run_beside-requires-send-C
 run_beside-requires-send-C g c κs within =
-    let office = office_sync (param 0 g.row.J) g.J.Run c.books_are_shared.ensures c.meters_are_shared.ensures.shared c.networks_cross.ensures in
+    let office = office_sync (param 0 g.row.J) g.J.Run c.books_are_shared.ensures c.meters_are_shared.ensures.shared c.networks_cross.ensures c.journals_are_shared.ensures in
     let scribe : (κ : NamedLft) → IsSend (Scribe.the_row κ (param 1 g.row.H) (param 0 g.row.J) g.J.Run)
     = λ κ. scribe_send κ (param 1 g.row.H) (param 0 g.row.J) g.J.Run c.type_bounds.sync-H office c.networks_cross.ensures in
     search (sendable, scribe) depth 60

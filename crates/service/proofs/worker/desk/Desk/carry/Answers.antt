@@ -2,7 +2,6 @@ use Rattle.std.proofs.Common.{Option, rules, ap, subst, ◌∙◌}
 use Rattle.floor_core.specs.Work.{loaded}
 use Rattle.workers.specs.Carrying.{IsCarried, growth}
 use Rattle.service.specs.Journal.{with_journal}
-use Rattle.service.specs.declared.journal.DiskJournal.{DiskJournal}
 use Rattle.service.proofs.Exchanged.{carried_so}
 use Rattle.service.proofs.Tallies.{reply_first}
 use Rattle.service.proofs.worker.desk.Desk.carry.Goals as goal
@@ -23,7 +22,7 @@ returns-clause-carried g c = record {
   memory = c.carry-reply.ensures.memory;
   sure = c.carry-reply.ensures.lost;
   sent = search rules;
-  carried = subst (λ (journal : Option DiskJournal). IsCarried (with_journal g.J.Run.openings (g.C.Clock.gives c.args.system.now.clock.now) journal) c.carry-reply.result
+  carried = subst (λ journal. IsCarried (with_journal g.J.Run.openings (g.C.Clock.gives c.args.system.now.clock.now) journal) c.carry-reply.result
       (growth c.args.job.tenant c.args.self.now.share c.carry-reply.new.share) (loaded c.args.self.now.slot c.args.job.tenant c.args.job.token.now c.args.job.frame.now) c.carry-reply.new.slot (λ sending. Unit {0}))
       c.keeper-keeper.ensures (carried_so _ _ (λ sending so. tt) _ c.carry-reply.result _ _ _ c.carry-reply.ensures.carried);
   metered = c.carry-reply.ensures.seat;
