@@ -5,6 +5,7 @@ ghost use Rattle.books_shared.specs.Traced.{openings_of};
 
 mod audits;
 mod commands;
+mod disk;
 mod kept;
 mod locks;
 mod openings;
