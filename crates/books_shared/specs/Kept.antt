@@ -10,6 +10,7 @@ use Rattle.tenant_core.specs.declared.journal.Entry.TheVariants.{Answer}
 use Rattle.tenant_core.specs.declared.journal.Record.{Record}
 use Rattle.floor_core.specs.declared.parts.Got.{Got}
 use Rattle.floor_core.specs.declared.parts.Got.TheVariants as got
+use Rattle.one_list.specs.declared.step.Beginning.{Beginning}
 use Rattle.one_list.specs.declared.step.Done.{Done}
 use Rattle.books_shared.specs.Outcomes.{most_counted}
 use Rattle.books_shared.specs.declared.rise.CallCounts.{CallCounts}
@@ -22,6 +23,10 @@ pub record LockedBook : Type 0 where
   pub full : ℕ
   pub bad : ℕ
   pub steps : List Done
+
+-- the tenant's steps until now, as one who meets the book keeps them
+abbrev pub beginning_of : LockedBook → Beginning
+beginning_of k = record { tenant = k.state.opening.tenant; steps = k.steps }
 
 -- how many entries were appended since the books were made
 abbrev pub entries_appended : LockedBook → ℕ

@@ -13,7 +13,7 @@ use crate::kept::LockedBook;
 use crate::share::Share;
 use common_types::ReadError;
 use ilp_addr::Moment;
-use one_list::{Chronicle, Opened, Run, Unclaimed};
+use one_list::{Chronicle, Opened, Run, Unclaimed, Watcher};
 use std::alloc::{AllocError, Global};
 use std::marker::Model;
 use std::sync::{Mutex, Wait};
@@ -63,7 +63,7 @@ pub fn are_numbered(openings: &[Opening]) -> bool
 }
 
 impl<J: Run> Books<J> {
-    ghost use Rattle.std.specs.Prelude.{◌≡◌, ◌<◌, ◌≤◌, length, true, IfOk, IfSome, IsErrOf};
+    ghost use Rattle.std.specs.Prelude.{◌≡◌, ◌<◌, ◌≤◌, [], length, true, IfOk, IfSome, IsErrOf};
     ghost use Rattle.tenant_core.specs.Limits.{max_tenants};
     ghost use Rattle.books_shared.specs.Gathers.{max_workers};
     ghost use Rattle.books_shared.specs.Kept.{LockInvariant};
@@ -138,6 +138,13 @@ impl<J: Run> Books<J> {
             workers,
         };
         Ok((books, shares))
+    }
+
+    /// One who watches the books, and has met none of them. It does nothing to them, and is not gathered. It allocates nothing.
+    pub fn watcher(&self) -> Watcher<J>
+        ensures { result ≡ [] }
+    {
+        self.chronicle.watcher()
     }
 
     /// How many tenants there are: their numbers are those below.

@@ -5,7 +5,7 @@ use crate::outcomes::PacketCounts;
 use crate::share::Share;
 use floor_core::{Got, Slot, Turn};
 use ilp_addr::Moment;
-use one_list::{Chronicle, Run};
+use one_list::{Chronicle, Run, Watcher};
 use std::alloc::Global;
 use std::marker::Model;
 use std::sync::MutexGuard;
@@ -50,18 +50,18 @@ impl<'a, J: Run> Guard<'a, J> {
 }
 
 impl<J: Run> Guard<'_, J> {
-    ghost use Rattle.std.specs.Prelude.{◌≡◌, ◌+◌, ◌++◌, ◌<◌, ◌^◌, length, true};
+    ghost use Rattle.std.specs.Prelude.{All, ◌≡◌, ◌+◌, ◌++◌, ◌∷◌, [], ◌<◌, ◌^◌, length, true};
     ghost use Rattle.floor_core.specs.Work.{decide_call, answer_call};
     ghost use Rattle.tenant_core.specs.State.{recorded};
     ghost use Rattle.tenant_core.specs.Answer.{tick_made, tick_result, ticked};
     ghost use Rattle.tenant_core.specs.Governed.{IsGoverned, made_by};
     ghost use Rattle.tenant_core.specs.Sound.{IsSound};
-    ghost use Rattle.books_shared.specs.Kept.{LockInvariant, bad_risen, entries_appended, full_risen};
+    ghost use Rattle.books_shared.specs.Kept.{LockInvariant, bad_risen, beginning_of, entries_appended, full_risen};
     ghost use Rattle.books_shared.specs.Outcomes.{AreCounted};
     ghost use Rattle.books_shared.specs.Rises.{command_rise, entries_closed, rise_of, tick_rise};
     ghost use Rattle.books_shared.specs.Shares.{share_met};
     ghost use Rattle.books_shared.specs.Traced.{IsLedTo, share_counted};
-    ghost use Rattle.one_list.specs.Steps.{done_by, next_place, of_tenant, of_worker};
+    ghost use Rattle.one_list.specs.Steps.{GoesOnFrom, done_by, next_place, of_tenant, of_worker};
     ghost use Rattle.books_shared.specs.Turns.{IsSlotLeft, IsEnded, IsSentBy};
     ghost use Rattle.one_list.specs.Holds.{AreOwnAnswers};
 
@@ -126,6 +126,16 @@ impl<J: Run> Guard<'_, J> {
         ensures shared { of_worker share.old.worker self.old.steps ≡ of_tenant self.old.state.opening.tenant share.old.steps }
     {
         self.kept.meet(self.chronicle, share);
+    }
+
+    /// The watcher keeps that it has met the steps which led to this book. They go on from those of the tenant that it had met before.
+    /// Nothing else changes, and it takes neither room nor memory.
+    pub fn watch(&mut self, watcher: &mut Watcher<J>)
+        ensures book { self.new ≡ self.old }
+        ensures watcher { watcher.new ≡ watcher.old ++ beginning_of self.old ∷ [] }
+        ensures goes_on { All (GoesOnFrom self.old.state.opening.tenant self.old.steps) watcher.old }
+    {
+        self.kept.watch(self.chronicle, watcher);
     }
 
     /// Decides the frame of the slot by the book at this moment, as `Slot::decide` does, and counts what that adds:

@@ -18,7 +18,7 @@ use crate::rise::{CallCounts, command_rise, entries_closed, rise_of_turn, tick_r
 use crate::share::Share;
 use floor_core::{Got, Slot, Turn};
 use ilp_addr::Moment;
-use one_list::{Chronicle, Run, TenantPart};
+use one_list::{Chronicle, Run, TenantPart, Watcher};
 use std::alloc::Global;
 use std::marker::Model;
 use tenant_core::{
@@ -58,18 +58,18 @@ impl<J: Run> Model for LockedBook<J> {
 }
 
 impl<J: Run> LockedBook<J> {
-    ghost use Rattle.std.specs.Prelude.{◌≡◌, ◌+◌, ◌<◌, ◌^◌, [], ◌++◌, length, true};
+    ghost use Rattle.std.specs.Prelude.{All, ◌≡◌, ◌+◌, ◌<◌, ◌^◌, [], ◌∷◌, ◌++◌, length, true};
     ghost use Rattle.floor_core.specs.Work.{decide_call, answer_call};
     ghost use Rattle.one_list.specs.Holds.{AreOwnAnswers};
     ghost use Rattle.books_shared.specs.Turns.{IsSentBy};
     ghost use Rattle.tenant_core.specs.Answer.{tick_made, tick_result, ticked};
     ghost use Rattle.tenant_core.specs.Governed.{IsGoverned, made_by};
     ghost use Rattle.tenant_core.specs.State.{opened, recorded};
-    ghost use Rattle.books_shared.specs.Kept.{LockInvariant, bad_risen, entries_appended, full_risen};
+    ghost use Rattle.books_shared.specs.Kept.{LockInvariant, bad_risen, beginning_of, entries_appended, full_risen};
     ghost use Rattle.books_shared.specs.Outcomes.{AreCounted};
     ghost use Rattle.books_shared.specs.Rises.{command_rise, entries_closed, rise_of, tick_rise};
     ghost use Rattle.books_shared.specs.Traced.{IsLedTo, IsTraced, share_counted};
-    ghost use Rattle.one_list.specs.Steps.{done_by, next_place, of_tenant, of_worker};
+    ghost use Rattle.one_list.specs.Steps.{GoesOnFrom, done_by, next_place, of_tenant, of_worker};
 
     /// A book in which nothing has happened, and the part of the one list of its tenant.
     pub fn new(book: Book, part: TenantPart<J>) -> LockedBook<J>
@@ -143,6 +143,15 @@ impl<J: Run> LockedBook<J> {
         ensures shared { of_worker share.old.worker self.old.steps ≡ of_tenant self.old.state.opening.tenant share.old.steps }
     {
         share.meet(chronicle, &mut self.part);
+    }
+
+    /// The watcher keeps that it has met the tenant's steps. They go on from those that it had met before. Nothing else changes.
+    pub fn watch(&mut self, chronicle: &Chronicle<J>, watcher: &mut Watcher<J>)
+        ensures book { self.new ≡ self.old }
+        ensures watcher { watcher.new ≡ watcher.old ++ beginning_of self.old ∷ [] }
+        ensures goes_on { All (GoesOnFrom self.old.state.opening.tenant self.old.steps) watcher.old }
+    {
+        self.part.watch(chronicle, watcher);
     }
 
     /// The book and how many entries were appended, and its part of the one list.

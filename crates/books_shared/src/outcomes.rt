@@ -6,7 +6,7 @@ ghost use Rattle.tenant_core.specs.Journals.{last_of};
 ghost use Rattle.tenant_core.specs.Views.{entry_of, record_of};
 ghost use Rattle.books_shared.specs.Outcomes.{code_place, outcome_in, place_of, record_counted, relayed_outcome};
 
-use one_list::{Chronicle, Run, TenantPart, WorkerPart};
+use one_list::{Chronicle, Run, TenantPart, Watcher, WorkerPart};
 use std::marker::Model;
 use tenant_core::{EntryView, Journal, Outcome, RecordView, RejectCode, Verdict};
 
@@ -149,8 +149,8 @@ impl<J: Run> Model for TenantLog<J> {
 }
 
 impl<J: Run> TenantLog<J> {
-    ghost use Rattle.std.specs.Prelude.{◌≡◌, ◌<◌, []};
-    ghost use Rattle.one_list.specs.Steps.{done_last, grown, has_met, of_tenant, of_worker, worked};
+    ghost use Rattle.std.specs.Prelude.{All, ◌≡◌, ◌<◌, [], ◌∷◌, ◌++◌};
+    ghost use Rattle.one_list.specs.Steps.{GoesOnFrom, done_last, grown, has_met, of_tenant, of_worker, worked};
     ghost use Rattle.books_shared.specs.Outcomes.{AreCounted};
 
     /// A part that has no steps yet.
@@ -201,6 +201,15 @@ impl<J: Run> TenantLog<J> {
         ensures shared { of_worker worker.old.number self.old.steps ≡ of_tenant self.old.number worker.old.steps }
     {
         chronicle.meet(&mut self.part, worker);
+    }
+
+    /// What `Chronicle::watch` does.
+    pub fn watch(&mut self, chronicle: &Chronicle<J>, watcher: &mut Watcher<J>)
+        ensures tenant { self.new ≡ self.old }
+        ensures watcher { watcher.new ≡ watcher.old ++ record { tenant = self.old.number; steps = self.old.steps } ∷ [] }
+        ensures goes_on { All (GoesOnFrom self.old.number self.old.steps) watcher.old }
+    {
+        chronicle.watch(&mut self.part, watcher);
     }
 
     /// The part.

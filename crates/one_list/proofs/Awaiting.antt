@@ -1,14 +1,14 @@
 -- A hold that a step of a history began is awaited until a step answers it.
-use Rattle.std.proofs.Common.{◌≡◌, ◌≢◌, ◌==◌, ◌&&◌, ◌+◌, ◌<◌, ℕ, Bool, true, false, cond, List, [], ◌∷◌, ◌++◌, All, map, fold, arith, refl, sym, ap, subst, ◌∙◌}
+use Rattle.std.proofs.Common.{◌≡◌, ◌≢◌, ◌==◌, ◌&&◌, ◌+◌, ◌<◌, ℕ, Bool, true, false, cond, List, [], ◌∷◌, ◌++◌, All, map, arith, refl, sym, ap, subst, ◌∙◌}
 use Rattle.std.specs.Prelude.{Option, Some, None, is_some, find, filter, Any, ◌||◌, count_by, IsSomeAnd, nat_le, nat_lt}
 use Rattle.std.specs.List.{list_any}
 use Rattle.std.proofs.lemmas.Bool.{eqb-true, eqb-false, lt-ltb}
 use Rattle.std.proofs.lemmas.Bool.Decides.{nat_tests}
 use Rattle.std.proofs.lemmas.List.Elements.{All-nil, All-cons, All-weaker}
 use Rattle.std.proofs.lemmas.List.Folds.{Any-from_list_any}
-use Rattle.std.proofs.lemmas.List.Sums.{fold_push, sum_by-cons}
+use Rattle.std.proofs.lemmas.List.Sums.{sum_by-cons}
 use Rattle.tenant_core.specs.Fates.{is_answer_to}
-use Rattle.tenant_core.specs.Holds.{Course, awaits_answer, course_after, hold_after, hold_begun, holds_of, is_open, is_open_under, is_overdue, open_holds, is_fulfill, is_relayed}
+use Rattle.tenant_core.specs.Holds.{awaits_answer, hold_after, hold_begun, holds_of, is_open, is_open_under, is_overdue, open_holds, is_fulfill, is_relayed}
 use Rattle.tenant_core.specs.Limits.{max_period}
 use Rattle.tenant_core.specs.Made.{IsMade}
 use Rattle.tenant_core.specs.OpenHolds.{is_awaited}

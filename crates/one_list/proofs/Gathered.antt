@@ -132,6 +132,6 @@ one_list size v t = (
     workers = workers_told t.0 v t.1;
     met = met_told t.0 v t.1;
     others = t.2;
-    once = λ n. omega (arith, numbered n v, t.3 false n);
+    once = λ n. omega (arith, numbered n v, t.3 false n tt);
   },
 )

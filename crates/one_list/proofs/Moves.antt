@@ -5,7 +5,7 @@ use mathlib.Core.Option.{some, none, some-ne-none, some-injective}
 use lib.ListN.{get_elem?}
 use Rattle.atomic_table.specs.Table.{Allows, Enters, Splits, Joins, Me, State, keeps, step}
 use Rattle.atomic_table.proofs.Lists.{at_set, at_snoc, set_again}
-use Rattle.std.proofs.lemmas.List.Elements.{filter-append, All-append, All-cons, All-nil, All-weaker}
+use Rattle.std.proofs.lemmas.List.Elements.{filter-append, All-append, All-cons, All-head, All-nil, All-tail, All-weaker}
 use Rattle.std.proofs.lemmas.List.Sums.{sum_by-cons, sum_by-append}
 use Rattle.std.proofs.lemmas.List.{append_assoc, append-nil}
 use Rattle.std.proofs.lemmas.Bool.Decides.{nat_tests}
@@ -16,7 +16,7 @@ use Rattle.one_list.specs.declared.step.Done.{Done}
 use Rattle.one_list.specs.declared.step.Size.{Size}
 use Rattle.one_list.specs.declared.rule.Claim.{Claim}
 use Rattle.one_list.specs.Steps.{IsBeginning, Place, done, done_by, done_last, last_place, of_tenant}
-use Rattle.one_list.specs.Rules.{new_claims, first_view, claim, concerns, IsRightClaim, AllFit, is_kind, speaks_of, claim_count, AreBelow, ChronicleInvariant, steps_by, claim_after, claims_after, Adds, LookShows, Meets, met_claims, first_claim, other_claims, claims_of}
+use Rattle.one_list.specs.Rules.{new_claims, first_view, claim, concerns, IsRightClaim, AllFit, is_kind, speaks_of, claim_count, AreBelow, ChronicleInvariant, IsPartNumber, steps_by, claim_after, claims_after, Adds, LookShows, Meets, met_claims, first_claim, other_claims, claims_of, watching}
 
 -- ---- sums over all views
 
@@ -123,17 +123,17 @@ adds size slots id word w t period v j f by p q tenant worker s k homes at small
     let place = last_place t period j.records in
     let es = done_by w place m in
     let u = map (claim_after es) v in
-    let none_of : (b : Bool) (n : ℕ) → 0 < claim_count b n v → (i : ℕ) (x : List Claim) → i ≢ id → get_elem? s.views i ≡ some x → claim_count b n x ≡ 0
-    = λ b n some_here i x apart there. omega (arith, k.once b n, two_of_sum (claim_count b n) s.views id i v x at there apart) in (
+    let none_of : (b : Bool) (n : ℕ) → IsPartNumber size b n → 0 < claim_count b n v → (i : ℕ) (x : List Claim) → i ≢ id → get_elem? s.views i ≡ some x → claim_count b n x ≡ 0
+    = λ b n a some_here i x apart there. omega (arith, k.once b n a, two_of_sum (claim_count b n) s.views id i v x at there apart) in (
       u,
       keeps,
       tt,
       record {
         log = k.log ++ es;
         fits = fit_set (k.log ++ es) s.views id u
-            (λ i x apart there. none_else k.log w place m x (none_of true w p i x apart there) (none_of false t q i x apart there) (k.fits i x there))
+            (λ i x apart there. none_else k.log w place m x (none_of true w worker p i x apart there) (none_of false t tt q i x apart there) (k.fits i x there))
             (all_after k.log es v (k.fits id v at));
-        once = λ b n. omega (arith, k.once b n, sum_set (claim_count b n) s.views id v u at, count_after b n es v);
+        once = λ b n a. omega (arith, k.once b n a, sum_set (claim_count b n) s.views id v u at, count_after b n es v);
         below = all_below size k.log w place m k.below tenant worker;
       },
       ap (λ z. (map (claim_after z) v, [])) (sym by),
@@ -177,7 +177,7 @@ after_add w t period j ls js met theirs mine both after a b joined told =
 pub looks_as : (size : Size) (slots id word : ℕ) (me : Me Recorded (List Claim)) (known : Size) → size ≡ known
     → Allows (λ (s : State Recorded (List Claim)). ChronicleInvariant size s.views) slots id me word (λ n. n) (LookShows known (step slots word 0 0 none) me)
 looks_as size slots id word me known is s k homes at small =
-    (me.0, keeps, tt, subst (λ l. ChronicleInvariant size l) (sym (set_again s.views id me.0 at)) k, ((k.log, k.fits id me.0 at, subst (λ (z : Size). AreBelow z k.log) is k.below, λ b n. omega (arith, k.once b n, at_most_sum (claim_count b n) s.views id me.0 at)), refl))
+    (me.0, keeps, tt, subst (λ l. ChronicleInvariant size l) (sym (set_again s.views id me.0 at)) k, ((k.log, k.fits id me.0 at, subst (λ (z : Size). AreBelow z k.log) is k.below, λ b n a. omega (arith, k.once b n (subst (λ (z : Size). IsPartNumber z b n) (sym is) a), at_most_sum (claim_count b n) s.views id me.0 at)), refl))
 
 -- ---- a meeting
 
@@ -204,10 +204,10 @@ meets_as size slots id word me known w t ls js met is claims =
       record {
         log = k.log;
         fits = fit_set k.log s.views id u (λ i x apart there. k.fits i x there) (met_fit k.log w t ls js met (k.fits id v at));
-        once = λ b n. omega (arith, k.once b n, sum_set (claim_count b n) s.views id v u at, counts-cons b n (claim true w ls met) (claim false t js [] ∷ []), counts-cons b n (claim true w ls (met ++ record { tenant = t; steps = js } ∷ [])) (claim false t js [] ∷ []));
+        once = λ b n a. omega (arith, k.once b n a, sum_set (claim_count b n) s.views id v u at, counts-cons b n (claim true w ls met) (claim false t js [] ∷ []), counts-cons b n (claim true w ls (met ++ record { tenant = t; steps = js } ∷ [])) (claim false t js [] ∷ []));
         below = k.below;
       },
-      ((k.log, k.fits id v at, subst (λ (z : Size). AreBelow z k.log) is k.below, λ b n. omega (arith, k.once b n, at_most_sum (claim_count b n) s.views id v at)), refl),
+      ((k.log, k.fits id v at, subst (λ (z : Size). AreBelow z k.log) is k.below, λ b n a. omega (arith, k.once b n (subst (λ (z : Size). IsPartNumber z b n) (sym is) a), at_most_sum (claim_count b n) s.views id v at)), refl),
     ))
 
 -- what a meeting made of two passes that were put together
@@ -227,7 +227,7 @@ joins size id other v w s k at apart there =
     record {
       log = k.log;
       fits = fit_set k.log (set s.views id both) other [] (λ j u _ e. fit_set k.log s.views id both (λ i y _ e'. k.fits i y e') (fit-append k.log v w (k.fits id v at) (k.fits other w there')) j u e) tt;
-      once = λ b n. omega (arith, k.once b n, sum_set (claim_count b n) s.views id v both at, sum_set (claim_count b n) (set s.views id both) other w [] there, sum_by-append (λ c. cond (speaks_of b n c) 1 0) v w);
+      once = λ b n a. omega (arith, k.once b n a, sum_set (claim_count b n) s.views id v both at, sum_set (claim_count b n) (set s.views id both) other w [] there, sum_by-append (λ c. cond (speaks_of b n c) 1 0) v w);
       below = k.below;
     }
 
@@ -243,7 +243,7 @@ splits size id v left right fit counts s k at =
           (λ was. fit_set k.log s.views id left (λ i y _ e'. k.fits i y e') mine.0 j u was)
           (λ (same : right ≡ u). subst (AllFit k.log) same mine.1)
           (at_snoc (set s.views id left) right u j e);
-      once = λ b n. omega (arith, k.once b n, sum_set (claim_count b n) s.views id v left at, counts b n, sum_by-append (claim_count b n) (set s.views id left) (right ∷ []), sum_by-cons (claim_count b n) right []);
+      once = λ b n a. omega (arith, k.once b n a, sum_set (claim_count b n) s.views id v left at, counts b n, sum_by-append (claim_count b n) (set s.views id left) (right ∷ []), sum_by-cons (claim_count b n) right []);
       below = k.below;
     }
 
@@ -324,7 +324,7 @@ begins size =
     record {
       log = [];
       fits = fits;
-      once = λ b m. omega (arith, sum_by-cons (claim_count b m) (first_view size) [], first_once size b m);
+      once = λ b m a. omega (arith, sum_by-cons (claim_count b m) (first_view size) [], first_once size b m);
       below = All-nil (λ e. (e.tenant < size.tenants) × (e.worker < size.workers));
     }
   where
@@ -339,10 +339,48 @@ enters size slots word s k homes small = (
   record {
     log = k.log;
     fits = λ j u e. ⊎_elim (λ was. k.fits j u was) (λ (same : [] ≡ u). subst (AllFit k.log) same tt) (at_snoc s.views [] u j e);
-    once = λ b n. omega (arith, k.once b n, sum_by-append (claim_count b n) s.views ([] ∷ []), sum_by-cons (claim_count b n) [] []);
+    once = λ b n a. omega (arith, k.once b n a, sum_by-append (claim_count b n) s.views ([] ∷ []), sum_by-cons (claim_count b n) [] []);
     below = k.below;
   },
   refl,
+)
+
+-- a worker's steps are none if its number is that of no worker
+none_by : (log : List Done) (n : ℕ) → All (λ e. e.worker < n) log → filter (λ e. e.worker == n) log ≡ []
+none_by [] n below = refl
+none_by (e ∷ es) n below =
+    let apart : (e.worker == n) ≡ false = let least : e.worker < n = All-head (λ e. e.worker < n) e es below in grind (arith, nat_tests, least) in
+    ap (λ (b : Bool). cond b (e ∷ filter (λ e. e.worker == n) es) (filter (λ e. e.worker == n) es)) apart
+    ∙ none_by es n (All-tail (λ e. e.worker < n) e es below)
+
+watch_right : (size : Size) (log : List Done) → AreBelow size log → AllFit log (watching size [])
+watch_right size log below = (
+  (
+    none_by log size.workers (All-weaker (λ (e : Done). (e.tenant < size.tenants) × (e.worker < size.workers)) (λ e. e.worker < size.workers) (λ e both. both.1) log below),
+    All-nil (IsBeginning log),
+  ),
+  tt,
+)
+
+-- it is counted under no part's number
+watch_count : (size : Size) (b : Bool) (n : ℕ) → IsPartNumber size b n → claim_count b n (watching size []) ≡ 0
+watch_count size false n a = refl
+watch_count size true n a =
+    let apart : (size.workers == n) ≡ false = let least : n < size.workers = a in grind (arith, nat_tests, least) in
+    omega (arith, counts-cons true n (claim true size.workers [] []) [] ∙ ap (λ (t : Bool). cond t 1 0 + claim_count true n []) apart)
+
+-- a pass of one who watches
+pub watches : (size known : Size) (slots word : ℕ) → size ≡ known
+    → Enters (λ (s : State Recorded (List Claim)). ChronicleInvariant size s.views) slots word (λ _ w. w ≡ watching known [])
+watches size known slots word is s k homes small = (
+  watching size [],
+  record {
+    log = k.log;
+    fits = λ j u e. ⊎_elim (λ was. k.fits j u was) (λ (same : watching size [] ≡ u). subst (AllFit k.log) same (watch_right size k.log k.below)) (at_snoc s.views (watching size []) u j e);
+    once = λ b n a. omega (arith, k.once b n a, watch_count size b n a, sum_by-append (claim_count b n) s.views (watching size [] ∷ []), sum_by-cons (claim_count b n) (watching size []) []);
+    below = k.below;
+  },
+  ap (λ (z : Size). watching z []) is,
 )
 
 -- ---- parts that are handed out

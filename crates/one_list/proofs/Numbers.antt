@@ -1,5 +1,5 @@
 -- Holds are numbered one after the other, over all periods of a tenant: one step alone begins the hold of a number.
-use Rattle.std.proofs.Common.{◌≡◌, ◌≤◌, ◌<◌, ◌+◌, ◌==◌, ◌&&◌, ◌||◌, ℕ, Bool, true, false, cond, not, List, [], ◌∷◌, ◌++◌, map, fold, length, arith, append-nil, length-append, refl, sym, ap, subst, ◌∙◌}
+use Rattle.std.proofs.Common.{◌≡◌, ◌≤◌, ◌<◌, ◌+◌, ◌||◌, ℕ, Bool, true, false, cond, not, List, [], ◌∷◌, ◌++◌, map, fold, length, arith, length-append, refl, sym, ap, subst}
 use Rattle.std.specs.Prelude.{Option, Some, None, Result, Ok, Err, find, max, nat_le, nat_lt, option_map}
 use Rattle.std.proofs.lemmas.Bool.{eqb-true}
 use Rattle.std.proofs.lemmas.List.{length-map}
@@ -23,7 +23,7 @@ use Rattle.tenant_core.specs.Present.{network_of}
 use Rattle.tenant_core.specs.Purse.{is_over_ceiling, is_over_credit}
 use Rattle.tenant_core.specs.Replay.{decide_outcome, is_sayable, key_entered, outcome_of}
 use Rattle.tenant_core.specs.Routing.{Way, stays_here, onward, rate_between, outgoing_expiry}
-use Rattle.tenant_core.specs.State.{State, clock_of, entered_at, extended, later, recorded}
+use Rattle.tenant_core.specs.State.{State, clock_of, extended, later, recorded}
 use Rattle.tenant_core.specs.declared.hold.Hold.{Hold}
 use Rattle.tenant_core.specs.declared.journal.DecideEntry.{DecideEntry}
 use Rattle.tenant_core.specs.declared.journal.Entry.{Entry}
@@ -36,8 +36,8 @@ use Rattle.tenant_core.specs.declared.verdict.RejectCode.{RejectCode}
 use Rattle.tenant_core.specs.declared.verdict.RejectCode.TheVariants.{BadRequest, Unreachable, InvalidAmount, WrongCondition, AmountTooLarge, Busy}
 use Rattle.tenant_core.specs.declared.verdict.RejectCode.TheVariants.{InsufficientLiquidity, RateLimited, InsufficientSource, InsufficientTimeout}
 use Rattle.tenant_core.specs.declared.verdict.Verdict.{Verdict}
-use Rattle.tenant_core.specs.declared.verdict.Verdict.TheVariants.{Refuse, Fulfil, Forward}
-use Rattle.one_list.specs.History.{IsNextStep, LeadTo, after_entry, after_record}
+use Rattle.tenant_core.specs.declared.verdict.Verdict.TheVariants.{Refuse, Forward}
+use Rattle.one_list.specs.History.{LeadTo, after_entry, after_record}
 use Rattle.one_list.specs.Holds.{BeginsHold, begins_hold, holder, is_numbered}
 use Rattle.one_list.specs.declared.step.Done.{Done}
 

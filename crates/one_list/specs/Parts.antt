@@ -9,7 +9,7 @@ use Rattle.one_list.specs.declared.step.Done.{Done}
 use Rattle.one_list.specs.declared.step.Size.{Size}
 use Rattle.one_list.specs.declared.rule.Claim.{Claim}
 use Rattle.one_list.specs.Steps.{PartView, WorkerView}
-use Rattle.one_list.specs.Rules.{claim, claims_of, first_view, new_claims, table_words}
+use Rattle.one_list.specs.Rules.{claim, claims_of, first_view, new_claims, table_words, watching}
 
 -- a list of which no run has been picked: its table, and how many tenants and workers there are
 pub record OpenedView : Type 0 where
@@ -76,6 +76,11 @@ pub record IsPart (table : TableId) (of_worker : Bool) (number most : ℕ) (met 
   pub below : number < most
   pub same_table : at ≡ table
   pub claims : views ≡ (claim of_worker number (claimed_steps views) met ∷ []) ∷ []
+
+-- the pass of one who watches, and has met that
+pub record IsWatcher (table : TableId) (size : Size) (met : List Beginning) (at : TableId) (views : List (List Claim)) : Type 0 where
+  pub same_table : at ≡ table
+  pub claims : views ≡ watching size met ∷ []
 
 -- the tenants' parts of which the claims speak
 abbrev pub tenants_in : List Claim → List PartView

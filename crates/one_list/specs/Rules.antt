@@ -60,12 +60,17 @@ claim_count of_worker number claims = count_by (speaks_of of_worker number) clai
 abbrev pub AreBelow : Size → List Done → Type 0
 AreBelow size log = All (λ e. (e.tenant < size.tenants) × (e.worker < size.workers)) log
 
+-- the number may be that of a part: of a tenant's, or of one of the workers'
+abbrev pub IsPartNumber : Size → Bool → ℕ → Type 0
+IsPartNumber size false number = Unit {0}
+IsPartNumber size true number = number < size.workers
+
 -- the rule: there is one list by which the claims of all passes are right, and each worker and each tenant is claimed once at
 -- most
 pub record ChronicleInvariant (size : Size) (views : List (List Claim)) : Type 0 where
   pub log : List Done
   pub fits : (by : ℕ) (v : List Claim) → get_elem? views by ≡ some v → AllFit log v
-  pub once : (of_worker : Bool) (number : ℕ) → sum_by (claim_count of_worker number) views ≤ 1
+  pub once : (of_worker : Bool) (number : ℕ) → IsPartNumber size of_worker number → sum_by (claim_count of_worker number) views ≤ 1
   pub below : AreBelow size log
 
 -- ---- the start
@@ -78,6 +83,10 @@ new_claims of_worker from (suc n) = claim of_worker from [] [] ∷ new_claims of
 -- what the first pass claims: no step of each tenant and each worker
 abbrev pub first_view : Size → List Claim
 first_view size = new_claims false 0 size.tenants ++ new_claims true 0 size.workers
+
+-- what one who watches claims: no step, under a number that no worker has; and what it has met
+abbrev pub watching : Size → List Beginning → List Claim
+watching size met = claim true size.workers [] met ∷ []
 
 -- ---- a step
 
@@ -100,12 +109,12 @@ abbrev pub Adds : Step Recorded → Me Recorded (List Claim) → ℕ → Me Reco
 Adds st me n me' = me' ≡ (claims_after st.second st.said me.0, me.1)
 
 -- none speaks of a worker or a tenant of which another does
-abbrev pub AreOnce : List Claim → Type 0
-AreOnce v = (of_worker : Bool) (number : ℕ) → claim_count of_worker number v ≤ 1
+abbrev pub AreOnce : Size → List Claim → Type 0
+AreOnce size v = (of_worker : Bool) (number : ℕ) → IsPartNumber size of_worker number → claim_count of_worker number v ≤ 1
 
 -- there is one list by which the claims are right
 abbrev pub AreOfOneList : Size → List Claim → Type 0
-AreOfOneList size v = (log : List Done) × AllFit log v × AreBelow size log × AreOnce v
+AreOfOneList size v = (log : List Done) × AllFit log v × AreBelow size log × AreOnce size v
 
 -- what a look shows: the claims are right, and stay as they are
 abbrev pub LookShows : Size → Step Recorded → Me Recorded (List Claim) → ℕ → Me Recorded (List Claim) → Type 0

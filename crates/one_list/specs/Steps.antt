@@ -74,6 +74,10 @@ has_met p t = record p { met = p.met ++ record { tenant = t.number; steps = t.st
 abbrev pub IsBeginning : List Done → Beginning → Type 0
 IsBeginning log b = (rest : List Done) × (of_tenant b.tenant log ≡ b.steps ++ rest)
 
+-- the steps go on from what was met of that tenant, if it was of that tenant
+abbrev pub GoesOnFrom : ℕ → List Done → Beginning → Type 0
+GoesOnFrom tenant steps b = b.tenant ≡ tenant → (rest : List Done) × (steps ≡ b.steps ++ rest)
+
 -- ---- one list
 
 -- how many of the parts have that number

@@ -1,15 +1,15 @@
 //! The list of a run, and the parts of it that are not handed out yet.
 
-ghost use Rattle.std.specs.Prelude.{◌≡◌, ◌+◌, ◌^◌, ◌<◌, ◌≤◌, ℕ, true, false, List, [], ◌∷◌, ◌++◌};
+ghost use Rattle.std.specs.Prelude.{All, ◌≡◌, ◌+◌, ◌^◌, ◌<◌, ◌≤◌, ℕ, true, false, List, [], ◌∷◌, ◌++◌};
 ghost use Rattle.one_list.specs.declared.step.Beginning.{Beginning};
 ghost use Rattle.one_list.specs.declared.step.Done.{Done};
 ghost use Rattle.one_list.specs.Rules.{AreOfOneList, claim, claims_of, first_claim, first_view, met_claims, new_claims, other_claims, table_words};
-ghost use Rattle.one_list.specs.Steps.{done_last, grown, has_met, of_tenant, of_worker, worked};
+ghost use Rattle.one_list.specs.Steps.{GoesOnFrom, done_last, grown, has_met, of_tenant, of_worker, worked};
 ghost use Rattle.tenant_core.specs.Limits.{max_tenants};
 
 use crate::opened::LINE_WORDS;
-use crate::parts::{TenantPart, WorkerPart};
-use crate::rule::{Add, Blank, Both, First, Look, Meet, Pass, Words, Workers};
+use crate::parts::{TenantPart, Watcher, WorkerPart};
+use crate::rule::{Add, Blank, Both, First, Look, Meet, Pass, Watch, Words, Workers};
 use crate::run::Run;
 use atomic_table::Badge;
 use std::marker::{Model, PhantomData};
@@ -145,6 +145,27 @@ impl<J: Run> Chronicle<J> {
         worker.pass = theirs.into_badge();
     }
 
+    /// One who has met nothing yet. There may be any number of them. It allocates nothing.
+    pub fn watcher(&self) -> Watcher<J>
+        ensures { result ≡ [] }
+    {
+        Watcher::new(self.words.shared.load_new_seat::<Watch<J>>(0).1)
+    }
+
+    /// A tenant's part and a watcher meet. The tenant's steps go on from those that the watcher has met before. The watcher keeps
+    /// which steps of the tenant it has met. It allocates nothing.
+    pub fn watch(&self, tenant: &mut TenantPart<J>, watcher: &mut Watcher<J>)
+        ensures tenant { tenant.new ≡ tenant.old }
+        ensures watcher { watcher.new ≡ watcher.old ++ record { tenant = tenant.old.number; steps = tenant.old.steps } ∷ [] }
+        ensures goes_on { All (GoesOnFrom tenant.old.number tenant.old.steps) watcher.old }
+    {
+        let mine = mem::replace(&mut tenant.pass, Badge::blank()).into_seat();
+        let theirs = mem::replace(&mut watcher.pass, Badge::blank()).into_seat();
+        let (mine, theirs) = self.introduce(tenant.number, mine, theirs);
+        tenant.pass = mine.into_badge();
+        watcher.pass = theirs.into_badge();
+    }
+
     // Has the pass of a worker meet that of a tenant.
     fn introduce(&self, tenant: u64, mine: Pass, theirs: Pass) -> (Pass, Pass)
         requires tables { (mine.table_id ≡ J.table) × (theirs.table_id ≡ J.table) }
@@ -159,6 +180,8 @@ impl<J: Run> Chronicle<J> {
             → result.1.me ≡ (claim true worker others (met ++ record { tenant = tenant; steps = steps } ∷ []) ∷ [], []) }
         ensures shared { (worker : ℕ) (steps others : List Done) (met : List Beginning) → mine.me ≡ (claim false tenant steps [] ∷ [], [])
             → theirs.me ≡ (claim true worker others met ∷ [], []) → of_worker worker steps ≡ of_tenant tenant others }
+        ensures goes_on { (worker : ℕ) (steps others : List Done) (met : List Beginning) → mine.me ≡ (claim false tenant steps [] ∷ [], [])
+            → theirs.me ≡ (claim true worker others met ∷ [], []) → All (GoesOnFrom tenant steps) met }
     {
         let words = &self.words.shared;
         let mut both = theirs;

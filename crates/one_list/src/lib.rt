@@ -17,6 +17,6 @@ mod step;
 pub use chronicle::{Chronicle, Unclaimed};
 pub use gathering::Gathering;
 pub use opened::Opened;
-pub use parts::{TenantPart, WorkerPart};
+pub use parts::{TenantPart, Watcher, WorkerPart};
 pub use run::Run;
 pub use step::{Beginning, Done, Size};

@@ -1,7 +1,7 @@
 //! Parts of the list: one for each tenant, and one for each worker.
 
 ghost use Rattle.std.specs.Prelude.{◌≡◌, ◌<◌, true, false, [], ◌∷◌};
-ghost use Rattle.one_list.specs.Rules.{claim};
+ghost use Rattle.one_list.specs.Rules.{claim, watching};
 
 use crate::rule::{Pass, View};
 use crate::run::Run;
@@ -47,6 +47,40 @@ impl<J: Run> Model for WorkerPart<J> {
     ghost view = { λ p. worker_part_of p.number p.pass.views };
 
     ghost invariant = { λ p. IsPart J.table true p.number J.size.workers (met_in p.pass.views) p.pass.table_id p.pass.views };
+}
+
+/// One who meets tenants' parts of the list, and does nothing. Contracts see the tenants' steps that it has met, each time as far
+/// as they had come then.
+#[derive(Drop)]
+pub struct Watcher<J: Run> {
+    pub(crate) pass: Badge<View>,
+    run: PhantomData<J>,
+}
+
+impl<J: Run> Model for Watcher<J> {
+    ghost use Rattle.std.specs.Prelude.{List};
+    ghost use Rattle.one_list.specs.declared.step.Beginning.{Beginning};
+    ghost use Rattle.one_list.specs.Parts.{met_in, IsWatcher};
+
+    ghost Value = { List Beginning };
+
+    ghost view = { λ w. met_in w.pass.views };
+
+    ghost invariant = { λ w. IsWatcher J.table J.size (met_in w.pass.views) w.pass.table_id w.pass.views };
+}
+
+impl<J: Run> Watcher<J> {
+    // One whose pass has met nothing.
+    pub(crate) fn new(pass: Pass) -> Watcher<J>
+        requires table { pass.table_id ≡ J.table }
+        requires claims { pass.me ≡ (watching J.size [], []) }
+        ensures { result ≡ [] }
+    {
+        Watcher {
+            pass: pass.into_badge(),
+            run: PhantomData,
+        }
+    }
 }
 
 impl<J: Run> TenantPart<J> {

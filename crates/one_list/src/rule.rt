@@ -79,6 +79,18 @@ impl Play<Journal, View> for Blank {
     ghost then = { λ st me n after. after.0 ≡ [] };
 }
 
+/// A pass begins with the claim of one who watches: it does nothing, and its number is that of no worker.
+pub struct Watch<J: Run> {
+    run: PhantomData<J>,
+}
+
+impl<J: Run> Play<Journal, View> for Watch<J> {
+    ghost use Rattle.std.specs.Prelude.{◌≡◌, []};
+    ghost use Rattle.one_list.specs.Rules.{watching};
+
+    ghost then = { λ st me n after. after.0 ≡ watching J.size [] };
+}
+
 /// A pass gives its first claim away.
 pub struct First;
 

@@ -5,7 +5,7 @@ use Rattle.tenant_core.specs.Journals.{Recorded}
 use Rattle.std.specs.Prelude.{List}
 use Rattle.one_list.specs.declared.rule.Claim.{Claim}
 use Rattle.one_list.specs.Rules.{first_claim, other_claims}
-use Rattle.one_list.proofs.Meeting.{told_alike}
+use Rattle.one_list.proofs.Meeting.{met_before, told_alike}
 use Rattle.one_list.proofs.Moves.{after_meet, joins, meets_as, splits_first}
 use Rattle.one_list.proofs.chronicle.Chronicle.introduce.Goals as goal
 
@@ -50,3 +50,8 @@ pub returns-clause-shared : goal.returns-clause-shared
 returns-clause-shared g c worker steps others met mine theirs =
     let joined = ap (λ (m : Me Recorded (List Claim)). m.0) c.join_seat.ensures.2 in
     told_alike g.J.Run.size worker c.args.tenant others steps met _ (joined ∙ (λ k. (theirs k).0 ++ (mine k).0)) c.load.ensures.2.0
+
+pub returns-clause-goes_on : goal.returns-clause-goes_on
+returns-clause-goes_on g c worker steps others met mine theirs =
+    let joined = ap (λ (m : Me Recorded (List Claim)). m.0) c.join_seat.ensures.2 in
+    met_before g.J.Run.size worker c.args.tenant others steps met _ (joined ∙ (λ k. (theirs k).0 ++ (mine k).0)) c.load.ensures.2.0
