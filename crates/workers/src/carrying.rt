@@ -66,7 +66,7 @@ pub struct Job<'a> {
 ///
 /// The reply's status is counted for the tenant, and so is a fault of the link, unless the seat's count of it is full.
 /// The sender gets the slot's reply if the status is 200, and nothing if it is 503.
-pub fn carry<J: Run, R: Wait, L: Link, G: Gate, C: Clock, K: Keeping>(
+pub fn carry<J: Run, R: Wait, L: Link, G: Gate, C: Clock, K: Keeping<J>>(
     tools: &Tools<'_, J, R, C, K>,
     seat: &mut MeterSeat,
     slot: &mut Slot,
@@ -125,7 +125,7 @@ pub(crate) fn tally(meters: &Meters, seat: &mut MeterSeat, tenant: usize, kind: 
 }
 
 // Carries a packet, and leaves the call in the slot if the answer is unavailable (503).
-fn carried<J: Run, R: Wait, L: Link, G: Gate, C: Clock, K: Keeping>(
+fn carried<J: Run, R: Wait, L: Link, G: Gate, C: Clock, K: Keeping<J>>(
     tools: &Tools<'_, J, R, C, K>,
     gate: &G,
     slot: &mut Slot,
@@ -161,7 +161,7 @@ fn carried<J: Run, R: Wait, L: Link, G: Gate, C: Clock, K: Keeping>(
 }
 
 // Lets the tenant decide the packet of the slot, sends it on, and lets the tenant settle what comes back.
-fn exchanged<J: Run, R: Wait, L: Link, G: Gate, C: Clock, K: Keeping>(
+fn exchanged<J: Run, R: Wait, L: Link, G: Gate, C: Clock, K: Keeping<J>>(
     tools: &Tools<'_, J, R, C, K>,
     gate: &G,
     slot: &mut Slot,
@@ -197,7 +197,7 @@ fn exchanged<J: Run, R: Wait, L: Link, G: Gate, C: Clock, K: Keeping>(
     }
     let (turn, place) = decide(tools, slot, share, tenant);
     gate.pass(share.worker(), Point::Decided);
-    let Ok(durable) = wait_for(tools.keeping, place) else {
+    let Ok(durable) = wait_for::<J, K>(tools.keeping, place) else {
         return Reply::Unkept;
     };
     match turn {
@@ -210,7 +210,7 @@ fn exchanged<J: Run, R: Wait, L: Link, G: Gate, C: Clock, K: Keeping>(
             let (turn, place) = answer(tools, slot, share, tenant, got);
             gate.pass(share.worker(), Point::Answered);
             match turn {
-                Turn::Reply => match wait_for(tools.keeping, place) {
+                Turn::Reply => match wait_for::<J, K>(tools.keeping, place) {
                     Ok(_) => Reply::Settled(got),
                     Err(_) => Reply::Untold(got),
                 },
@@ -221,7 +221,7 @@ fn exchanged<J: Run, R: Wait, L: Link, G: Gate, C: Clock, K: Keeping>(
 }
 
 // Lets the tenant decide, by its book, under its lock, and gives the place after the book's records.
-fn decide<J: Run, R: Wait, C: Clock, K: Keeping>(
+fn decide<J: Run, R: Wait, C: Clock, K: Keeping<J>>(
     tools: &Tools<'_, J, R, C, K>,
     slot: &mut Slot,
     share: &mut Share<J>,
@@ -265,7 +265,7 @@ fn send<L: Link>(slot: &mut Slot, link: &mut L, tenant: usize, durable: Durable)
 }
 
 // Lets the tenant settle what came back, by its book, under its lock, and gives the place after the book's records.
-fn answer<J: Run, R: Wait, C: Clock, K: Keeping>(
+fn answer<J: Run, R: Wait, C: Clock, K: Keeping<J>>(
     tools: &Tools<'_, J, R, C, K>,
     slot: &mut Slot,
     share: &mut Share<J>,

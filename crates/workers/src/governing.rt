@@ -4,14 +4,14 @@ ghost use Rattle.std.specs.Prelude.{◌≡◌, ◌<◌, ◌↔◌, true, Err};
 ghost use Rattle.books_shared.specs.Shares.{is_spent};
 ghost use Rattle.workers.specs.Carrying.{IsDone, WasCommanded, circumstances, growth};
 ghost use Rattle.workers.specs.Counting.{IsRoomMade, command_kind, tallied};
-ghost use Rattle.workers.specs.Keeping.{place_after};
+ghost use Rattle.workers.specs.Keeping.{HasClosed, OnRolled, place_after};
 ghost use Rattle.workers.specs.declared.governing.GovernFault.TheVariants as governing;
 
 use crate::carrying::tally;
 use crate::keeping::{JournalPlace, Keeping, place_after, wait_for};
 use crate::tools::Tools;
 use crate::traits::Clock;
-use books_shared::{RoomFault, Share};
+use books_shared::{Guard, RoomFault, Share};
 use meters::{Kind, MeterSeat};
 use one_list::Run;
 use std::alloc::Global;
@@ -69,7 +69,7 @@ pub enum GovernFault {
 /// - `NoRoom` if there is no room to keep what it does.
 /// - `Unkept` if the keeper of the records has failed. The book has done or refused the command.
 /// - What `Book::command` refuses.
-pub fn govern<J: Run, R: Wait, C: Clock, K: Keeping>(
+pub fn govern<J: Run, R: Wait, C: Clock, K: Keeping<J>>(
     tools: &Tools<'_, J, R, C, K>,
     seat: &mut MeterSeat,
     share: &mut Share<J>,
@@ -122,15 +122,22 @@ pub(crate) fn make_room<J: Run>(
     }
 }
 
-// Says who keeps what is done that a command has closed a period, if it did.
-pub(crate) fn note_roll<K: Keeping>(keeping: &K, answer: &Result<Answered, CommandFault>) {
+// Says who keeps what is done that a command has closed a period of the book, if it did.
+pub(crate) fn note_roll<J: Run, K: Keeping<J>>(
+    keeping: &K,
+    guard: &mut Guard<'_, J>,
+    answer: &Result<Answered, CommandFault>,
+)
+    requires closed { OnRolled answer.now (λ period. HasClosed J.openings guard.old period) }
+    ensures same { guard.new ≡ guard.old }
+{
     if let Ok(Answered::Rolled(period)) = answer {
-        keeping.note_closed(period);
+        keeping.note_closed(guard, period);
     }
 }
 
 // Lets the tenant's book do the command, under its lock, and gives the place after the book's records.
-fn commanded_book<J: Run, R: Wait, C: Clock, K: Keeping>(
+fn commanded_book<J: Run, R: Wait, C: Clock, K: Keeping<J>>(
     tools: &Tools<'_, J, R, C, K>,
     share: &mut Share<J>,
     tenant: usize,
@@ -144,11 +151,11 @@ fn commanded_book<J: Run, R: Wait, C: Clock, K: Keeping>(
     let mut guard = tools.books.enter(tools.rt, tenant);
     guard.meet(share);
     let answer = guard.command(tools.alloc, share, command, tools.clock.now());
-    note_roll(tools.keeping, &answer);
+    note_roll(tools.keeping, &mut guard, &answer);
     (answer, place_after(guard.book()))
 }
 
-fn commanded<J: Run, R: Wait, C: Clock, K: Keeping>(
+fn commanded<J: Run, R: Wait, C: Clock, K: Keeping<J>>(
     tools: &Tools<'_, J, R, C, K>,
     share: &mut Share<J>,
     tenant: usize,
@@ -164,7 +171,7 @@ fn commanded<J: Run, R: Wait, C: Clock, K: Keeping>(
         return Err(GovernFault::NoRoom);
     }
     let (answer, place) = commanded_book(tools, share, tenant, command);
-    let Ok(_) = wait_for(tools.keeping, place) else {
+    let Ok(_) = wait_for::<J, K>(tools.keeping, place) else {
         return Err(GovernFault::Unkept);
     };
     match answer {

@@ -1,9 +1,11 @@
 //! Who keeps what is done to the books, before anything of it leaves.
 
 ghost use Rattle.std.specs.Prelude.{◌≡◌, OnErr, OnOk, false};
-ghost use Rattle.workers.specs.Keeping.{place_after};
+ghost use Rattle.workers.specs.Keeping.{HasClosed, place_after};
 ghost use Rattle.workers.specs.declared.keeping.JournalPlace.{JournalPlace as Place};
 
+use books_shared::Guard;
+use one_list::Run;
 use tenant_core::{Book, Period};
 use thiserror::Error;
 
@@ -20,8 +22,8 @@ pub struct JournalPlace {
 #[error("not known to be kept")]
 pub struct NotKept;
 
-/// Who keeps what is done to the books, so that it outlives the process.
-pub trait Keeping {
+/// Who keeps what is done to the books of a run, so that it outlives the process.
+pub trait Keeping<J: Run> {
     /// That all records of a tenant before that place are kept.
     ghost keeps: { Self → Place → Type 0 };
 
@@ -32,8 +34,10 @@ pub trait Keeping {
     fn has_room(&self, tenant: usize) -> bool
         ensures { result ≡ false → fails self.now };
 
-    /// A roll has just closed that period. The lock of the tenant's book is held.
-    fn note_closed(&self, period: &Period);
+    /// A roll has just closed that period of the tenant's book, whose lock is held. The book stays as it is.
+    fn note_closed(&self, guard: &mut Guard<'_, J>, period: &Period)
+        requires closed { HasClosed J.openings guard.old period.now }
+        ensures same { guard.new ≡ guard.old };
 
     /// Waits until all records of a tenant before that place are kept. No lock is held meanwhile.
     ///
@@ -47,7 +51,7 @@ pub trait Keeping {
 #[derive(Clone, Copy, Debug, PartialEq, Eq)]
 pub struct NothingKept;
 
-impl Keeping for NothingKept {
+impl<J: Run> Keeping<J> for NothingKept {
     ghost keeps = { λ _ _. Unit {0} };
 
     ghost fails = { λ _. ⊥ };
@@ -56,7 +60,7 @@ impl Keeping for NothingKept {
         true
     }
 
-    fn note_closed(&self, _period: &Period) {}
+    fn note_closed(&self, _guard: &mut Guard<'_, J>, _period: &Period) {}
 
     fn wait(&self, _place: JournalPlace) -> Result<(), NotKept> {
         Ok(())
@@ -68,7 +72,10 @@ impl Keeping for NothingKept {
 pub struct Durable(());
 
 /// Waits until all records of a tenant before that place are kept.
-pub(crate) fn wait_for<K: Keeping>(keeping: &K, place: JournalPlace) -> Result<Durable, NotKept>
+pub(crate) fn wait_for<J: Run, K: Keeping<J>>(
+    keeping: &K,
+    place: JournalPlace,
+) -> Result<Durable, NotKept>
     ensures kept { OnOk result (K.keeps keeping.now place) }
     ensures failed { OnErr result (K.fails keeping.now) }
 {

@@ -35,7 +35,7 @@ pub fn is_ripe(book: &Book, percent: u8) -> bool
 ///
 /// The errors are those of `govern`, and nothing has changed then, but for `Unkept`. `Spent` comes exactly if one of the share's
 /// counts is full, `Memory` if it is out of memory for the receipt, and `Refused` with what `Book::command` refuses a roll for.
-pub fn roll_if_ripe<J: Run, R: Wait, C: Clock, K: Keeping>(
+pub fn roll_if_ripe<J: Run, R: Wait, C: Clock, K: Keeping<J>>(
     tools: &Tools<'_, J, R, C, K>,
     share: &mut Share<J>,
     tenant: usize,
@@ -53,7 +53,7 @@ pub fn roll_if_ripe<J: Run, R: Wait, C: Clock, K: Keeping>(
     let Some((answer, place)) = rolled_book(tools, share, tenant, percent) else {
         return Ok(None);
     };
-    let Ok(_) = wait_for(tools.keeping, place) else {
+    let Ok(_) = wait_for::<J, K>(tools.keeping, place) else {
         return Err(GovernFault::Unkept);
     };
     match answer {
@@ -63,7 +63,7 @@ pub fn roll_if_ripe<J: Run, R: Wait, C: Clock, K: Keeping>(
 }
 
 // What the tenant's book answers to a roll, under its lock, if its period is ripe, and the place after the book's records.
-fn rolled_book<J: Run, R: Wait, C: Clock, K: Keeping>(
+fn rolled_book<J: Run, R: Wait, C: Clock, K: Keeping<J>>(
     tools: &Tools<'_, J, R, C, K>,
     share: &mut Share<J>,
     tenant: usize,
@@ -82,6 +82,6 @@ fn rolled_book<J: Run, R: Wait, C: Clock, K: Keeping>(
         return None;
     }
     let answer = guard.command(tools.alloc, share, &Command::Roll, now);
-    note_roll(tools.keeping, &answer);
+    note_roll(tools.keeping, &mut guard, &answer);
     Some((answer, place_after(guard.book())))
 }
