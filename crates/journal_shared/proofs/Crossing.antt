@@ -6,6 +6,7 @@ use Rattle.line_log.specs.contracts.log.Log as Log
 use Rattle.log_folder.specs.contracts.disk_file.DiskFile as DiskFile
 use Rattle.log_folder.specs.contracts.disk_file.DiskFileLogFile.TheImpl as DiskLog
 use Rattle.log_folder.proofs.history.History.TheSendSync as of_history
+use Rattle.one_list.proofs.parts.Watcher.TheSendSync as of_watcher
 use Rattle.line_log.specs.declared.file.LogFile as LogFile
 use Rattle.one_list.specs.declared.run.Run as Run
 use Rattle.book_journal.specs.contracts.writer.LogWriter as LogWriter
@@ -15,7 +16,7 @@ use Rattle.journal_shared.specs.contracts.progress.Progress as Progress
 use Rattle.journal_shared.specs.contracts.shared.SharedJournal as SharedJournal
 
 noted_send : (J : RattleType) (r : Run.Ghosts J.Denot) → IsSend (Noted.the_row J r)
-noted_send J r = search (sendable, std.crosses) depth 40
+noted_send J r = search (sendable, std.crosses, of_watcher.the_send) depth 40
 
 log_send : (D : RattleType) (d : LogFile.Ghosts D.Denot) → IsSend D → IsSend (Log.the_row D d)
 log_send D d file = search (sendable, std.crosses) depth 40
@@ -23,8 +24,8 @@ log_send D d file = search (sendable, std.crosses) depth 40
 writer_send : (D : RattleType) (d : LogFile.Ghosts D.Denot) → IsSend D → IsSend (LogWriter.the_row D d)
 writer_send D d file = search (sendable, std.crosses, log_send) depth 80
 
-pen_send : (D : RattleType) (d : LogFile.Ghosts D.Denot) → IsSend D → IsSend (Pen.the_row D d)
-pen_send D d file = search (sendable, std.crosses, writer_send) depth 80
+pen_send : (D J : RattleType) (d : LogFile.Ghosts D.Denot) (r : Run.Ghosts J.Denot) → IsSend D → IsSend (Pen.the_row D J d r)
+pen_send D J d r file = search (sendable, std.crosses, writer_send, of_watcher.the_send) depth 80
 
 progress_send : (D J : RattleType) (d : LogFile.Ghosts D.Denot) (r : Run.Ghosts J.Denot) → IsSend D → IsSend (Progress.the_row D J d r)
 progress_send D J d r file = search (sendable, std.crosses, pen_send) depth 80

@@ -1,3 +1,5 @@
+pub mod Histories
 pub mod Noting
+pub mod AllTenants
 pub mod Commits
 pub mod Crossing

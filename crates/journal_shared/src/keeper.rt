@@ -1,17 +1,18 @@
 //! Who keeps what is done to the books.
 
 ghost use Rattle.std.specs.Prelude.{◌≡◌, [], is_some, true, IfOk, OnErr, OnOk};
-ghost use Rattle.journal_shared.specs.Kept.{AreAppended, AreLinesOfAll, IsKept, IsKeptIn};
-ghost use Rattle.journal_shared.specs.Progress.{IsReady};
+ghost use Rattle.journal_shared.specs.Fronts.{AreAppended, Front, HasMetMore, IsFront, IsMet, end_of};
+ghost use Rattle.journal_shared.specs.Kept.{IsKept, IsKeptIn};
+ghost use Rattle.journal_shared.specs.Progress.{HasNext, IsReady};
 ghost use Rattle.workers.specs.declared.keeping.JournalPlace.{JournalPlace as Place};
 
 use crate::pen::Pen;
 use crate::shared::SharedJournal;
 use book_journal::CommitFault;
 use book_log::LinePlace;
-use books_shared::Books;
+use books_shared::{Books, Guard};
 use line_log::LogFile;
-use one_list::Run;
+use one_list::{Run, Watcher};
 use std::sync::atomic::Ordering;
 use std::sync::{Condvar, Wait};
 use tenant_core::Period;
@@ -32,9 +33,12 @@ impl<H: Wait, D: LogFile + Drop, J: Run> Keeper<'_, H, D, J> {
         &self,
         journal: &SharedJournal<D, J>,
         from: LinePlace,
+        watcher: &mut Watcher<J>,
         lines: &mut Vec<u8>,
     ) -> Result<LinePlace, CommitFault>
-        ensures { IfOk result (λ to. AreAppended J.openings from lines.old.items lines.new.items to) }
+        ensures lines { (before : Front) → IsFront J.openings before → IsMet watcher.old before → from ≡ end_of before
+            → IfOk result (λ to. AreAppended J.openings before lines.old.items lines.new.items to watcher.new) }
+        ensures met { HasMetMore watcher.old watcher.new }
     {
         let Some(notes) = journal.notes.get(from.tenant) else {
             return Err(CommitFault::Tenants);
@@ -42,22 +46,24 @@ impl<H: Wait, D: LogFile + Drop, J: Run> Keeper<'_, H, D, J> {
         if from.tenant >= self.books.tenants() {
             return Err(CommitFault::Tenants);
         }
-        let guard = self.books.enter(self.handle, from.tenant);
-        let mut notes = notes.lock(self.handle);
-        notes.note(&guard)?;
-        notes.take(from, lines)
+        let mut guard = self.books.enter(self.handle, from.tenant);
+        guard.watch(watcher);
+        notes.lock(self.handle).take(&mut guard, from, lines)
     }
 
     // Puts what the books of all tenants have got into what is written next.
-    fn note_all(&self, journal: &SharedJournal<D, J>, pen: &mut Pen<D>) -> Result<(), CommitFault>
-        requires none { pen.old.lines.items ≡ [] }
-        ensures lines { OnOk result (AreLinesOfAll J.openings pen.old.places.items pen.new.lines.items pen.new.next.items) }
-        ensures writer { pen.new.writer ≡ pen.old.writer }
-        ensures places { pen.new.places ≡ pen.old.places }
+    fn note_all(
+        &self,
+        journal: &SharedJournal<D, J>,
+        pen: &mut Pen<D, J>,
+    ) -> Result<(), CommitFault>
+        requires ready { IsReady D.seen D.may_leave J.openings pen.old }
+        ensures next { OnOk result (HasNext D.seen D.may_leave J.openings pen.new) }
     {
         pen.next.clear();
         for tenant in 0..pen.places.len() {
-            let to = self.note(journal, pen.places[tenant], &mut pen.lines)?;
+            let from = pen.places[tenant];
+            let to = self.note(journal, from, &mut pen.watcher, &mut pen.lines)?;
             if pen.next.push(to).is_err() {
                 return Err(CommitFault::Memory);
             }
@@ -66,12 +72,12 @@ impl<H: Wait, D: LogFile + Drop, J: Run> Keeper<'_, H, D, J> {
     }
 
     // Writes what the books of all tenants have got, and syncs it.
-    fn write(&self, journal: &SharedJournal<D, J>, pen: &mut Pen<D>) -> Result<(), CommitFault>
+    fn write(&self, journal: &SharedJournal<D, J>, pen: &mut Pen<D, J>) -> Result<(), CommitFault>
         requires ready { IsReady D.seen D.may_leave J.openings pen.old }
         ensures ready { OnOk result (IsReady D.seen D.may_leave J.openings pen.new) }
     {
         let written = match self.note_all(journal, pen) {
-            Ok(()) => pen.commit::<J>(),
+            Ok(()) => pen.commit(),
             Err(fault) => Err(fault),
         };
         journal.left.store(pen.left(), Ordering::SeqCst);
@@ -125,7 +131,7 @@ impl<H: Wait, D: LogFile + Drop, J: Run> Keeper<'_, H, D, J> {
     }
 }
 
-impl<H: Wait, D: LogFile + Drop, J: Run> Keeping for Keeper<'_, H, D, J> {
+impl<H: Wait, D: LogFile + Drop, J: Run> Keeping<J> for Keeper<'_, H, D, J> {
     ghost keeps = { λ k place. IsKeptIn D.seen D.may_leave J.openings k.journal.now place };
 
     ghost fails = { λ k. is_some k.journal.now ≡ true };
@@ -138,12 +144,12 @@ impl<H: Wait, D: LogFile + Drop, J: Run> Keeping for Keeper<'_, H, D, J> {
     }
 
     // If it is out of memory, the notes are spoilt, and nothing more is kept.
-    fn note_closed(&self, period: &Period) {
+    fn note_closed(&self, guard: &mut Guard<'_, J>, period: &Period) {
         let Some(journal) = self.journal else {
             return;
         };
         if let Some(notes) = journal.notes.get(period.tenant()) {
-            let _ = notes.lock(self.handle).note_closed(period);
+            let _ = notes.lock(self.handle).note_closed(guard, period);
         }
     }
 

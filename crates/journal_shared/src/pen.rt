@@ -1,19 +1,22 @@
 //! What a journal is written with.
 
-ghost use Rattle.std.specs.Prelude.{◌≡◌, [], ◌⊎◌, All, OnOk};
-ghost use Rattle.journal_shared.specs.Kept.{AreLinesOfAll, IsWritten};
+ghost use Rattle.std.specs.Prelude.{◌≡◌, [], OnOk};
+ghost use Rattle.journal_shared.specs.Kept.{IsWritten};
+ghost use Rattle.journal_shared.specs.Progress.{HasNext, IsReady};
 
 use book_journal::{CommitFault, LogWriter};
 use book_log::LinePlace;
 use line_log::LogFile;
-use one_list::Run;
+use one_list::{Run, Watcher};
 use std::alloc::Global;
 use std::mem;
 
 /// What a journal is written with. There is one, and nobody writes without it.
 #[derive(Drop)]
-pub(crate) struct Pen<D: LogFile> {
+pub(crate) struct Pen<D: LogFile, J: Run> {
     pub(crate) writer: LogWriter<D>,
+    // It has met the books of which the lines are.
+    pub(crate) watcher: Watcher<J>,
     // What is written next.
     pub(crate) lines: Vec<u8>,
     // For each tenant the place after the last record that is in the log.
@@ -22,15 +25,21 @@ pub(crate) struct Pen<D: LogFile> {
     pub(crate) next: Vec<LinePlace>,
 }
 
-impl<D: LogFile + Drop> Pen<D> {
+impl<D: LogFile + Drop, J: Run> Pen<D, J> {
     // A pen that writes nothing before these places.
-    pub(crate) fn new(alloc: Global, writer: LogWriter<D>, places: Vec<LinePlace>) -> Pen<D>
+    pub(crate) fn new(
+        alloc: Global,
+        writer: LogWriter<D>,
+        watcher: Watcher<J>,
+        places: Vec<LinePlace>,
+    ) -> Pen<D, J>
         ensures writer { result.writer ≡ writer }
         ensures places { result.places ≡ places }
         ensures lines { result.lines.items ≡ [] }
     {
         Pen {
             writer,
+            watcher,
             lines: Vec::new(alloc),
             places,
             next: Vec::new(alloc),
@@ -38,12 +47,11 @@ impl<D: LogFile + Drop> Pen<D> {
     }
 
     // Writes what is written next, and syncs it. If there is nothing, nothing is asked of the log.
-    fn write<J: Run>(&mut self) -> Result<(), CommitFault>
-        requires written { IsWritten D.seen D.may_leave J.openings self.old.writer self.old.places.items }
-        requires lines { AreLinesOfAll J.openings self.old.places.items self.old.lines.items self.old.next.items }
-        ensures written { OnOk result (IsWritten D.seen D.may_leave J.openings self.new.writer self.old.next.items) }
+    fn write(&mut self) -> Result<(), CommitFault>
+        ensures written { (next : HasNext D.seen D.may_leave J.openings self.old)
+            → OnOk result (IsWritten D.seen D.may_leave J.openings self.new.writer next.after) }
         ensures lines { OnOk result (self.new.lines.items ≡ []) }
-        ensures places { (self.new.places ≡ self.old.places) × (self.new.next ≡ self.old.next) }
+        ensures same { (self.new.places ≡ self.old.places) × (self.new.next ≡ self.old.next) × (self.new.watcher ≡ self.old.watcher) }
     {
         if self.lines.is_empty() {
             return Ok(());
@@ -52,13 +60,11 @@ impl<D: LogFile + Drop> Pen<D> {
     }
 
     // The same, after which the pen's places are those after it.
-    pub(crate) fn commit<J: Run>(&mut self) -> Result<(), CommitFault>
-        requires written { IsWritten D.seen D.may_leave J.openings self.old.writer self.old.places.items }
-        requires lines { AreLinesOfAll J.openings self.old.places.items self.old.lines.items self.old.next.items }
-        ensures written { OnOk result (IsWritten D.seen D.may_leave J.openings self.new.writer self.new.places.items) }
-        ensures lines { OnOk result (self.new.lines.items ≡ []) }
+    pub(crate) fn commit(&mut self) -> Result<(), CommitFault>
+        requires next { HasNext D.seen D.may_leave J.openings self.old }
+        ensures ready { OnOk result (IsReady D.seen D.may_leave J.openings self.new) }
     {
-        self.write::<J>()?;
+        self.write()?;
         mem::swap(&mut self.places, &mut self.next);
         Ok(())
     }

@@ -1,8 +1,8 @@
 //! How far a journal is on the disk.
 
 ghost use Rattle.std.specs.Prelude.{◌≡◌, [], false, true, IfSome};
-ghost use Rattle.journal_shared.specs.Kept.{AreOnDisk, IsKept, covers};
-ghost use Rattle.journal_shared.specs.Progress.{IsReady, has_kept};
+ghost use Rattle.journal_shared.specs.Kept.{IsKept, covers};
+ghost use Rattle.journal_shared.specs.Progress.{IsReady, IsSaid, has_kept};
 
 use crate::pen::Pen;
 use book_log::LinePlace;
@@ -24,7 +24,7 @@ fn covers(kept: LinePlace, place: JournalPlace) -> bool
 #[derive(Drop)]
 pub(crate) struct Progress<D: LogFile, J: Run> {
     // The pen, unless somebody writes.
-    pen: Option<Pen<D>>,
+    pen: Option<Pen<D, J>>,
     // For each tenant the place before which all its records are kept.
     kept: Vec<LinePlace>,
     has_failed: bool,
@@ -43,9 +43,9 @@ impl<D: LogFile, J: Run> Model for Progress<D, J> {
 
 impl<D: LogFile + Drop, J: Run> Progress<D, J> {
     // Nobody writes, and nothing is kept but what is before these places.
-    pub(crate) fn new(pen: Pen<D>, kept: Vec<LinePlace>) -> Progress<D, J>
+    pub(crate) fn new(pen: Pen<D, J>, kept: Vec<LinePlace>) -> Progress<D, J>
         requires ready { IsReady D.seen D.may_leave J.openings pen }
-        requires on_disk { AreOnDisk D.seen D.may_leave J.openings kept.items }
+        requires on_disk { IsSaid D.seen D.may_leave J.openings kept.items }
         ensures { result ≡ record { kept = kept.items; has_failed = false } }
     {
         Progress {
@@ -75,7 +75,7 @@ impl<D: LogFile + Drop, J: Run> Progress<D, J> {
     }
 
     // Takes the pen, unless somebody has it.
-    pub(crate) fn take_pen(&mut self) -> Option<Pen<D>>
+    pub(crate) fn take_pen(&mut self) -> Option<Pen<D, J>>
         ensures ready { IfSome result (λ pen. IsReady D.seen D.may_leave J.openings pen) }
         ensures same { self.new ≡ self.old }
     {
@@ -83,7 +83,7 @@ impl<D: LogFile + Drop, J: Run> Progress<D, J> {
     }
 
     // Puts the pen back, which has written all before its places. If it is out of memory, nothing more is kept.
-    pub(crate) fn put_back(&mut self, pen: Pen<D>)
+    pub(crate) fn put_back(&mut self, pen: Pen<D, J>)
         requires ready { IsReady D.seen D.may_leave J.openings pen }
         ensures kept { self.new.has_failed ≡ false → self.new.kept ≡ pen.places.items }
         ensures failed { self.old.has_failed ≡ true → self.new.has_failed ≡ true }

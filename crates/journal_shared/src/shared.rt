@@ -1,13 +1,15 @@
 //! The journal that threads share.
 
 ghost use Rattle.std.specs.Prelude.{◌≡◌, IfOk};
-ghost use Rattle.journal_shared.specs.Kept.{first_places};
+ghost use Rattle.books_shared.specs.Begun.{AreNumbered};
+ghost use Rattle.journal_shared.specs.Kept.{ends_of, first_fronts};
 
 use crate::noted::Noted;
 use crate::pen::Pen;
 use crate::progress::Progress;
 use book_journal::LogWriter;
 use book_log::LinePlace;
+use books_shared::Books;
 use line_log::LogFile;
 use one_list::Run;
 use std::alloc::{AllocError, Global};
@@ -18,7 +20,7 @@ use tenant_core::Opening;
 /// A journal on disk, as threads share it.
 ///
 /// What is said to be kept is in the log, and the log is settled: each crash leaves it. The pen has an invariant under its lock
-/// (`IsProgress`), and so have the notes of each tenant (`HasNoted`).
+/// (`IsProgress`), and so have the notes of each tenant (`IsNoted`).
 #[derive(Drop)]
 pub struct SharedJournal<D: LogFile, J: Run> {
     // For each tenant the lines of its records that nobody has taken yet.
@@ -35,7 +37,7 @@ pub struct SharedJournal<D: LogFile, J: Run> {
 
 // The places of the first records of these tenants.
 fn first_places(alloc: Global, openings: &[Opening]) -> Result<Vec<LinePlace>, AllocError>
-    ensures { IfOk result (λ places. places.items ≡ first_places openings.now) }
+    ensures { IfOk result (λ places. places.items ≡ ends_of (first_fronts openings.now)) }
 {
     let mut places = Vec::new(alloc);
     for opening in openings {
@@ -49,22 +51,29 @@ fn first_places(alloc: Global, openings: &[Opening]) -> Result<Vec<LinePlace>, A
 }
 
 impl<D: LogFile + Drop, J: Run> SharedJournal<D, J> {
-    /// The journal that is written so, of tenants to whom nothing has happened since these openings. So many bytes of its log are
+    /// The journal that is written so, of these books, to which nothing has happened since these openings. So many bytes of its log are
     /// left free for what is under way (`has_room`). Fails only if it is out of memory.
     pub fn new(
         alloc: Global,
         writer: LogWriter<D>,
         openings: &[Opening],
+        books: &Books<J>,
         reserve: u64,
     ) -> Result<SharedJournal<D, J>, AllocError>
-        requires { J.openings ≡ openings.now }
+        requires openings { J.openings ≡ openings.now }
+        requires numbers { AreNumbered openings.now }
     {
         let (mut notes, mut bells) = (Vec::new(alloc), Vec::new(alloc));
         for opening in openings {
-            notes.push(Mutex::new(Noted::new(alloc, opening)))?;
+            notes.push(Mutex::new(Noted::new(alloc, opening, books.watcher())))?;
             bells.push(Condvar::new())?;
         }
-        let pen = Pen::new(alloc, writer, first_places(alloc, openings)?);
+        let pen = Pen::new(
+            alloc,
+            writer,
+            books.watcher(),
+            first_places(alloc, openings)?,
+        );
         let left = pen.left();
         let progress = Progress::new(pen, first_places(alloc, openings)?);
         Ok(SharedJournal {
