@@ -94,6 +94,7 @@ pub fn open_office<J: Run>(
     } = start;
     let tenants = setup.tenants.as_slice();
     let (books, shares) = begun_books(alloc, opened, openings, desks, report.audit)?;
+    let journal = journal_of(alloc, journal, openings, &books)?;
     let (meters, first) = Meters::new(alloc, tenants.len())?;
     let office = Office {
         names: setup.names(alloc)?,
@@ -103,7 +104,7 @@ pub fn open_office<J: Run>(
         places: places_of(alloc, extent, tenants.len())?,
         door: Door::new(begun, total_of(extent)),
         filing: filing_of(alloc, statements, tenants.len())?,
-        journal: journal_of(alloc, journal, openings)?,
+        journal,
         refused_tokens: counters(alloc, tenants.len())?,
         start: setup.start,
         roll_at,
@@ -140,17 +141,19 @@ fn begun_books<J: Run>(
     }
 }
 
-// The journal that is written so, of tenants that begin so.
+// The journal that is written so, of these books, which begin so.
 fn journal_of<J: Run>(
     alloc: Global,
     writer: Option<LogWriter<DiskFile>>,
     openings: &[Opening],
+    books: &Books<J>,
 ) -> Result<Option<SharedJournal<DiskFile, J>>, AllocError>
-    requires { J.openings ≡ openings.now }
+    requires openings { J.openings ≡ openings.now }
+    requires numbers { AreNumbered openings.now }
     ensures { IfOk result (λ journal. is_some journal ≡ is_some writer) }
 {
     match writer {
-        Some(writer) => Ok(Some(SharedJournal::new(alloc, writer, openings, RESERVE)?)),
+        Some(writer) => Ok(Some(SharedJournal::new(alloc, writer, openings, books, RESERVE)?)),
         None => Ok(None),
     }
 }

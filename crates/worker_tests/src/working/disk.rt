@@ -184,7 +184,7 @@ fn fate_on<J: Run, R: Wait + AllocGlobal>(
     let mut share = shares.pop().ok_or("a share")?;
     let file = Memory::new(alloc, vec![in alloc; 0; disk.size]?, disk.calls);
     let writer = LogWriter::new(Log::blank(file, disk.size), [0; 32]);
-    let journal = Some(SharedJournal::<Memory, J>::new(alloc, writer, openings, RESERVE)?);
+    let journal = Some(SharedJournal::<Memory, J>::new(alloc, writer, openings, &books, RESERVE)?);
     let keeper = Keeper {
         handle: rt,
         books: &books,

@@ -1,6 +1,7 @@
 //! What a worker waits for before anything leaves.
 
 use super::{FixedClock, Open, Team, Trial, come_to, entries_of, filled, on_two_books, start};
+use books_shared::Guard;
 use floor_core::{Got, Slot};
 use meters::Meters;
 use one_list::Run;
@@ -27,7 +28,7 @@ struct Watching {
     number: AtomicU64,
 }
 
-impl Keeping for Watching {
+impl<J: Run> Keeping<J> for Watching {
     ghost keeps = { λ _ _. Unit {0} };
 
     ghost fails = { λ _. Unit {0} };
@@ -36,7 +37,7 @@ impl Keeping for Watching {
         self.has_room
     }
 
-    fn note_closed(&self, _period: &Period) {
+    fn note_closed(&self, _guard: &mut Guard<'_, J>, _period: &Period) {
         self.rolls.fetch_add(1, Ordering::SeqCst);
     }
 
