@@ -1,8 +1,8 @@
 -- A log to which records are added again and again.
-use Rattle.std.proofs.Common.{◌≡◌, ◌⊎◌, ⊎_elim, ◌+◌, ◌≤◌, ℕ, zero, suc, List, [], ◌∷◌, ◌++◌, length, take, length-append, append_assoc, append-nil, refl, sym, ap, subst, ◌∙◌, inl, inr, arith}
+use Rattle.std.proofs.Common.{◌≡◌, ⊎_elim, ◌+◌, ◌≤◌, ℕ, zero, suc, List, [], ◌∷◌, ◌++◌, length, take, length-append, append_assoc, append-nil, refl, sym, ap, subst, ◌∙◌, inl, inr, arith}
 use Rattle.floor_core.specs.World.{World}
 use Rattle.floor_core.specs.declared.step.Step.{Step}
-use Rattle.line_log.specs.File.{LeavesOnly, Only}
+use Rattle.line_log.specs.File.{Only}
 use Rattle.line_log.specs.Log.{IsWithSome, recovered}
 use Rattle.replay_text.specs.Closed.{HasTakenPeriods, Taking}
 use Rattle.replay_text.specs.Recorded.{HasFollowed, HasRecorded, Recording}

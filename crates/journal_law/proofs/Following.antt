@@ -282,11 +282,11 @@ same_after_one n next places others t p same is step k d h =
     let other : k ≢ t = λ e. omega arith in
     get_or-set_other places t k p d other ∙ same k d (omega arith)
 
-get_middle : (done rest : List State) (s : State) → slice_get (done ++ s ∷ rest) (length done) ≡ Some s
+pub get_middle : (done rest : List State) (s : State) → slice_get (done ++ s ∷ rest) (length done) ≡ Some s
 get_middle [] rest s = refl
 get_middle (x ∷ done) rest s = get_middle done rest s
 
-set_middle : (done rest : List State) (s u : State) → slice_set (done ++ s ∷ rest) (length done) u ≡ (done ++ u ∷ []) ++ rest
+pub set_middle : (done rest : List State) (s u : State) → slice_set (done ++ s ∷ rest) (length done) u ≡ (done ++ u ∷ []) ++ rest
 set_middle [] rest s u = refl
 set_middle (x ∷ done) rest s u = ap (λ (xs : List State). x ∷ xs) (set_middle done rest s u)
 
@@ -411,7 +411,7 @@ all_is_kept laws P seen R journal starts sum workers w left steps first last by 
 
 -- ---- records that a statement can state
 
-are_written : (ls : List (List ℕ)) (before after : List State) → AreLed IsLoggable ls before after → AreWritten ls before after
+pub are_written : (ls : List (List ℕ)) (before after : List State) → AreLed IsLoggable ls before after → AreWritten ls before after
 are_written [] before after led = led
 are_written (l ∷ ls) before after led =
     let one = led.1 in (

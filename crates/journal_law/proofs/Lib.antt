@@ -6,5 +6,6 @@ pub mod Leading
 pub mod NewLines
 pub mod Noting
 pub mod Scripts
+pub mod Shared
 pub mod Starts
 pub mod Sums
