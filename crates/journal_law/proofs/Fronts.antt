@@ -228,9 +228,17 @@ front_written (suc k) (l ∷ ls) before after written =
     let rest = front_written k ls written.0 after written.2 in
     (rest.0, (written.0, written.1, rest.1))
 
-pub front_is_written : LineLaws → (first text : List ℕ) (before after : List State) (n : ℕ) → IsTextWritten first text before after
-    → (between : List State) × IsTextWritten first (lines (take n (recovered text))) before between
-front_is_written laws first text before after n is =
+-- the first records of a written text are lines again: of commits, each with its sum, and of others
+pub record TextFront (first text : List ℕ) (all : List (List ℕ)) (n : ℕ) : Type 0 where
+  pub commits : List (List (List ℕ))
+  pub others : List (List ℕ)
+  pub is : lines (take n (recovered text)) ≡ summed first (map lines commits) ++ lines others
+  pub count : ℕ
+  pub front : all_of commits ++ others ≡ take count all
+
+pub text_front : LineLaws → (first text : List ℕ) (before after : List State) (n : ℕ) → (is : IsTextWritten first text before after)
+    → TextFront first text (all_of is.commits ++ is.others) n
+text_front laws first text before after n is =
     let all : List (List ℕ) = all_of is.commits ++ is.others in
     let each : List (List ℕ) = all_lines first is.commits is.others in
     let free : AllByRecursion IsFree each =
@@ -240,12 +248,24 @@ front_is_written laws first text before after n is =
     let taken : take n (recovered text) ≡ take again.0 each =
     ap (λ (t : List ℕ). take n (recovered t)) (is.is ∙ text_is is.commits is.others first) ∙ ap (take n) read.1 ∙ again.1 in
     let front = front_is is.commits is.others first again.0 in
-    let written = front_written front.count all before after is.written in (
+    record {
+      commits = front.commits;
+      others = front.others;
+      is = ap lines (taken ∙ front.is) ∙ sym (text_is front.commits front.others first);
+      count = front.count;
+      front = front.front;
+    }
+
+pub front_is_written : LineLaws → (first text : List ℕ) (before after : List State) (n : ℕ) → IsTextWritten first text before after
+    → (between : List State) × IsTextWritten first (lines (take n (recovered text))) before between
+front_is_written laws first text before after n is =
+    let front = text_front laws first text before after n is in
+    let written = front_written front.count (all_of is.commits ++ is.others) before after is.written in (
       written.0,
       record {
         commits = front.commits;
         others = front.others;
-        is = ap lines (taken ∙ front.is) ∙ sym (text_is front.commits front.others first);
+        is = front.is;
         written = subst (λ (ls : List (List ℕ)). AreWritten ls before written.0) (sym front.front) written.1;
       },
     )

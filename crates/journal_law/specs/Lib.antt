@@ -1,3 +1,4 @@
 pub mod Crashes
+pub mod Earlier
 pub mod Growth
 pub mod Kept

@@ -1,18 +1,19 @@
 //! Laws of the definitions, each the contract of a function that does nothing.
 
-ghost use Rattle.std.specs.Prelude.{◌≡◌, ℕ, All, List, [], Ok, length, map, take};
+ghost use Rattle.std.specs.Prelude.{◌≡◌, ◌++◌, ℕ, All, List, [], Ok, length, map, take};
 ghost use Rattle.book_journal.specs.Writer.{WriterState};
-ghost use Rattle.book_journal.specs.Written.{Written};
+ghost use Rattle.book_journal.specs.Written.{Written, commit_text};
 ghost use Rattle.book_log.specs.Base.{states_of};
 ghost use Rattle.book_log.specs.declared.base.TenantStart.{TenantStart};
 ghost use Rattle.book_log.specs.Written.{IsLoggable, IsTextWritten};
 ghost use Rattle.books_shared.specs.Begun.{AreNumbered};
 ghost use Rattle.journal_shared.specs.Fronts.{Front};
-ghost use Rattle.journal_shared.specs.Kept.{IsWritten};
+ghost use Rattle.journal_shared.specs.Kept.{AreLinesOfAll, IsWritten};
 ghost use Rattle.tenant_core.specs.declared.opening.Opening.{Opening};
 ghost use Rattle.floor_core.specs.World.{Event, FitsIn, Tenant, World, effect_of, world_at_start};
 ghost use Rattle.floor_core.specs.declared.step.Step.{Step};
 ghost use Rattle.journal_law.specs.Crashes.{AddsToLog, HasAdded};
+ghost use Rattle.journal_law.specs.Earlier.{LeavesFronts};
 ghost use Rattle.journal_law.specs.Growth.{GoesOnOrRolls};
 ghost use Rattle.journal_law.specs.Kept.{AreFirstStarts, HasAllRecords, HasAllWritten, HaveBegun, IsNewJournal, KeepsJournal};
 ghost use Rattle.line_log.specs.File.{Only};
@@ -66,14 +67,26 @@ pub fn crashes_leave_the_first_records<D: LogFile, K: PeriodKeeper + Recorder>()
         → HasAdded D.seen D.moment D.left_since (file first) (file last) }
 {}
 
-/// The log of a journal that threads share (`Keeper`) is a written journal from the openings of its tenants on, and leaves the books
-/// behind these fronts of their histories. Nothing was in it at first.
+/// The log of a journal that threads share (`Keeper`) is a written journal from the openings of its tenants on. It leaves the books to
+/// which these fronts of their histories led. Nothing was in it at first.
 pub fn shared_log_is_written<D: LogFile>()
     ensures { (openings : List Opening) (starts : List TenantStart) (w : WriterState D) (fronts : List Front)
         → (kept : IsWritten D.seen D.may_leave openings w fronts) → AreNumbered openings → map (λ s. s.opening) starts ≡ openings
         → recovered (D.seen kept.first.log.file) ≡ []
         → IsTextWritten kept.first.sum (lines (recovered (D.seen w.log.file))) (states_of starts) (map (λ f. f.state) fronts) }
 {}
+
+/// A crash comes while a text is committed to such a log. It leaves the records that were there, and the first of those of the text.
+/// That is a written journal, which leaves the books to which fronts of the tenants' histories led. They are at least those that were
+/// kept before, and at most those that the text leads to.
+pub fn crashes_leave_fronts<D: LogFile>()
+    ensures { (openings : List Opening) (starts : List TenantStart) (w : WriterState D) (fronts after : List Front) (text : List ℕ) (n : ℕ)
+        → (kept : IsWritten D.seen D.may_leave openings w fronts) → AreNumbered openings → map (λ s. s.opening) starts ≡ openings
+        → recovered (D.seen kept.first.log.file) ≡ [] → AreLinesOfAll openings fronts text after
+        → LeavesFronts starts kept.first.sum (lines (recovered (D.seen w.log.file) ++ take n (recovered (commit_text w.sum text)))) fronts after }
+{
+    book_log::laws::lines_are_read_back();
+}
 
 /// A front of the records of a written log, as a crash leaves it, is a written log.
 pub fn fronts_are_written()
