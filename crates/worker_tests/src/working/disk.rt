@@ -5,7 +5,7 @@ ghost use Rattle.books_shared.specs.Begun.{AreNumbered};
 
 use super::{FixedClock, Open, filled, start, two_setups};
 use book_journal::LogWriter;
-use books_shared::{Books, are_numbered};
+use books_shared::{Books, Share, are_numbered};
 use floor_core::{Got, Slot};
 use journal_shared::{Keeper, SharedJournal};
 use line_log::{Log, Memory};
@@ -162,7 +162,7 @@ fn two_openings(alloc: Global) -> Result<[Opening; 2], Fail> {
     Ok([acme, beta])
 }
 
-// What becomes of two packets of alice's, one after the other.
+// What becomes of two packets of alice's, one after the other, whose records are kept in such a file.
 fn fate_on<J: Run, R: Wait + AllocGlobal>(
     rt: &R,
     opened: Opened,
@@ -190,6 +190,19 @@ fn fate_on<J: Run, R: Wait + AllocGlobal>(
         books: &books,
         journal: &journal,
     };
+    two_packets(rt, &books, &keeper, &mut share)
+}
+
+// What becomes of two packets of alice's, whose records are kept so.
+fn two_packets<J: Run, R: Wait + AllocGlobal, K: Keeping<J>>(
+    rt: &R,
+    books: &Books<J>,
+    keeper: &K,
+    share: &mut Share<J>,
+) -> Result<Fate, Fail>
+    requires { 0 < books.now.tenants }
+{
+    let alloc = rt.alloc();
     let (bytes, answer) = (frame(alloc, "{base}")?, frame(alloc, "{fulfill}")?);
     let mut link = Counting {
         answer: answer.as_slice(),
@@ -201,22 +214,18 @@ fn fate_on<J: Run, R: Wait + AllocGlobal>(
     let tools = Tools {
         rt,
         alloc,
-        books: &books,
+        books,
         meters: &meters,
         clock: &clock,
-        keeping: &keeper,
+        keeping: keeper,
     };
     let job = Job {
         tenant: 0,
         token: b"tok-alice",
         frame: bytes.as_slice(),
     };
-    let first = carry(
-        &tools, &mut seat, &mut slot, &mut share, &mut link, &Open, job,
-    );
-    let second = carry(
-        &tools, &mut seat, &mut slot, &mut share, &mut link, &Open, job,
-    );
+    let first = carry(&tools, &mut seat, &mut slot, share, &mut link, &Open, job);
+    let second = carry(&tools, &mut seat, &mut slot, share, &mut link, &Open, job);
     Ok(Fate {
         first,
         second,
@@ -225,15 +234,24 @@ fn fate_on<J: Run, R: Wait + AllocGlobal>(
     })
 }
 
+// The same, of books that have just begun.
+fn fate_of<R: Wait + AllocGlobal>(
+    rt: &R,
+    openings: &[Opening; 2],
+    disk: &Disk,
+) -> Result<Fate, Fail> {
+    if !are_numbered(openings) {
+        return Err("openings in the order of their tenants".into());
+    }
+    let opened = Opened::new(rt.alloc(), 2, 1)?;
+    fate_on::<Brand, R>(rt, opened, openings, disk)
+}
+
 #[test]
 fn nothing_leaves_once_a_disk_has_failed(rt: HostRuntime) -> Result<(), Fail> {
     let openings = two_openings(rt.alloc())?;
-    if !are_numbered(&openings) {
-        return Err("openings in the order of their tenants".into());
-    }
     for disk in &DISKS {
-        let opened = Opened::new(rt.alloc(), 2, 1)?;
-        let fate = fate_on::<Brand, _>(&rt, opened, &openings, disk)?;
+        let fate = fate_of(&rt, &openings, disk)?;
         let title = disk.title;
         assert_eq!(rt; fate, disk.fate, "{title}");
     }
