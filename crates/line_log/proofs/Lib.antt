@@ -6,3 +6,4 @@ pub mod Recovering
 pub mod Runs
 pub mod Steps
 pub mod SumLaw
+pub mod Zeros

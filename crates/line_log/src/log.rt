@@ -1,6 +1,6 @@
 //! Lines of text in a file of zeros. No byte of a record is 0, so a crash leaves a beginning of what was written.
 
-ghost use Rattle.std.specs.Prelude.{◌≡◌, ◌+◌, ◌-◌, ◌<◌, ◌≤◌, ◌↔◌, ◌++◌, ℕ, true, false, IsTrue, List, length, replicate, take, slice_index, IfOk, OnOk, OnErr, IsErrOf, ◌⊎◌};
+ghost use Rattle.std.specs.Prelude.{◌≡◌, ◌+◌, ◌-◌, ◌<◌, ◌≤◌, ◌↔◌, ◌++◌, ℕ, true, false, IsTrue, List, [], length, replicate, take, slice_index, IfOk, OnOk, OnErr, IsErrOf, ◌⊎◌};
 ghost use Rattle.line_log.specs.Begun.{file_after, IsBegunIn, IsNotBegun};
 ghost use Rattle.line_log.specs.File.{Only, LeavesOnly};
 ghost use Rattle.line_log.specs.Log.{all_of, end_of_lines, log_in, recovered, IsBlankAfterLines, IsFullAt, IsLines, IsSettled, IsWithSome};
@@ -100,12 +100,15 @@ impl<D: LogFile> Log<D> {
     }
 
     /// A log without a record, in a file of that many zeros that are on the disk.
+    #[tactic(auto, using(crate::proofs::Zeros::none_recovered))]
     pub fn blank(file: D, size: usize) -> Log<D>
         requires sound { D.has_failed file ≡ false }
         requires zeros { D.seen file ≡ replicate size 0 }
         requires on_disk { Only (D.seen file) (D.may_leave file) }
         requires some { 0 < size }
-        ensures { result ≡ log_in file 0 size }
+        ensures log { result ≡ log_in file 0 size }
+        ensures none { recovered (D.seen result.file) ≡ [] }
+        ensures durable { Only (D.seen result.file) (D.may_leave result.file) }
     {
         Log {
             file,

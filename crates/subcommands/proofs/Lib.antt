@@ -1,4 +1,3 @@
 pub mod AllKept
 pub mod LogKept
 pub mod Openings
-pub mod Zeros

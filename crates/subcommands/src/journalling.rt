@@ -135,7 +135,6 @@ pub fn starts_of(alloc: Global, setup: &Setup) -> Result<Vec<TenantStart>, Alloc
 }
 
 /// The log of a file of so many zeros. It has no records.
-#[tactic(auto, using(crate::proofs::Zeros::none_recovered))]
 pub fn blank_log(file: DiskFile, size: usize) -> Log<DiskFile>
     requires zeros { IsOnDisk (replicate size 0) file }
     requires some { 0 < size }
