@@ -21,7 +21,7 @@ use Rattle.floor_core.specs.declared.parts.Turn.TheVariants as turns
 use Rattle.books_shared.specs.Rises.{rise_of}
 use Rattle.books_shared.specs.Turns.{IsLoaded}
 use Rattle.workers.specs.declared.keeping.JournalPlace.{JournalPlace}
-use Rattle.workers.specs.Carrying.{Circumstances, Growth, HasGrown, IsAnswered, IsDecided, WasCalled, WasMissed, answer_with}
+use Rattle.workers.specs.Carrying.{Circumstances, Growth, HasGrown, IsAnswered, IsDecided, IsReleased, IsSame, WasCalled, WasMissed, answer_with}
 use Rattle.workers.proofs.Growing.{grew_nothing}
 
 -- ---- a decide
@@ -142,3 +142,11 @@ called_by {under} turns.Stray g w left place h = absurd h
 called_by {under} turns.Stranger g w left place h = h
 called_by {under} turns.Reply g w left place h = h
 called_by {under} (turns.Send peer hold) g w left place h = h
+
+-- a packet that was not to be sent on is held by nobody
+pub not_held : (under : Circumstances) (told : Turn) (g : Growth) (w : Work) → ((peer hold : ℕ) → told ≡ turns.Send peer hold → ⊥) → IsSame g → IsReleased under told g w w
+not_held under turns.Idle g w other same = (refl, same)
+not_held under turns.Stray g w other same = (refl, same)
+not_held under turns.Stranger g w other same = (refl, same)
+not_held under turns.Reply g w other same = (refl, same)
+not_held under (turns.Send peer hold) g w other same = absurd (other peer hold refl)

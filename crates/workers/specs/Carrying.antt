@@ -10,6 +10,7 @@ use Rattle.tenant_core.specs.declared.journal.Record.{Record}
 use Rattle.tenant_core.specs.declared.opening.Opening.{Opening}
 use Rattle.floor_core.specs.Work.{Job, Work, Called, answer_call, carrying, decide_call, job_frame}
 use Rattle.floor_core.specs.declared.parts.Got.{Got}
+use Rattle.floor_core.specs.declared.parts.Got.TheVariants.{Fault}
 use Rattle.floor_core.specs.declared.parts.Turn.{Turn}
 use Rattle.floor_core.specs.declared.parts.Turn.TheVariants as turn
 use Rattle.one_list.specs.Holds.{BeginsHold, IsAnsweredByAnother}
@@ -184,14 +185,27 @@ pub record WasMissed (under : Circumstances) (g : Growth) (before : Work) (came 
   pub turn : (answer_with before came found.book found.now).turn ≡ turn.Stray
   pub none : HasMet found g
 
+-- what became of a packet at an answer, by its turn
+abbrev pub IsAnswered : (under : Circumstances) → Turn → Growth → Got → (before after : Work) → JournalPlace → Type 0
+IsAnswered under turn.Reply g came before after place = WasCalled under g (answer_with before came) turn.Reply after place
+IsAnswered under _ g came before after place = WasMissed under g before came × (after ≡ before)
+
 -- ---- a packet
 
--- nothing of the packet left, and its book's verdict is not known to be kept
+-- what became of the hold of a packet that was not sent on, by the turn of its decide: its book settled it as one without an answer
+abbrev pub IsReleased : (under : Circumstances) → Turn → Growth → (before after : Work) → Type 0
+IsReleased under (turn.Send peer hold) g before after = (told : Turn) × (place : JournalPlace) × IsAnswered under told g Fault before after place
+IsReleased under _ g before after = (after ≡ before) × IsSame g
+
+-- nothing of the packet left, and its book's verdict is not known to be kept: if that was to send it on, it is held no longer
 pub record WasHeldBack (under : Circumstances) (g : Growth) (before after : Work) : Type 0 where
+  pub between : ShareView
   pub told : Turn
   pub left : Work
-  pub decided : WasUnkept under g (decide_call before) told left
-  pub cleared : after ≡ carrying Job.NoJob left.room
+  pub decided : WasUnkept under (upto between g) (decide_call before) told left
+  pub ended : Work
+  pub released : IsReleased under told (from between g) left ended
+  pub cleared : after ≡ carrying Job.NoJob ended.room
 
 -- the packet went on, and what came back was settled, which is kept
 pub record CameBack (under : Circumstances) (g : Growth) (before : Work) (came : Got) (after : Work) (So : Sending → Type 0) : Type 0 where
@@ -241,11 +255,6 @@ abbrev pub IsDecided : (under : Circumstances) → Turn → Growth → (before a
 IsDecided under turn.Idle g before after place = ⊥
 IsDecided under turn.Stray g before after place = ⊥
 IsDecided under told g before after place = WasCalled under g (decide_call before) told after place
-
--- what became of a packet at an answer, by its turn
-abbrev pub IsAnswered : (under : Circumstances) → Turn → Growth → Got → (before after : Work) → JournalPlace → Type 0
-IsAnswered under turn.Reply g came before after place = WasCalled under g (answer_with before came) turn.Reply after place
-IsAnswered under _ g came before after place = WasMissed under g before came × (after ≡ before)
 
 -- the slot at the end: if the answer is unavailable (503), the call is dropped
 abbrev pub slot_closed : Reply → Work → Work

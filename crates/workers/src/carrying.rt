@@ -57,8 +57,8 @@ pub struct Job<'a> {
 /// - The share has met just these steps (`HasGrown`). So the one list's steps of the tenant begin with them.
 /// - If the verdict was to send the packet on, it was sent with the verdict's amount and expiry, to the target of the
 ///   verdict's peer. The sender gets what the book made of the packet, or of what came back.
-/// - After `Unkept` nothing was sent, and after `Untold` the sender gets nothing of what came back: the
-///   keeper of the records has failed.
+/// - After `Unkept` nothing was sent, and the book holds the packet no longer. After `Untold` the sender gets nothing of
+///   what came back. In both cases the keeper of the records has failed, or takes too long.
 /// - `Lost` is returned only if another worker's answer to the packet led to the book since that step (`elsewhere`).
 ///   It never comes in a run in which each worker answers only packets that it sent on itself (`Run::own`).
 /// - The share has grown by just these calls with the book: by what each of them counts for the tenant, and by the
@@ -198,6 +198,9 @@ fn exchanged<J: Run, R: Wait, L: Link, G: Gate, C: Clock, K: Keeping<J>>(
     let (turn, place) = decide(tools, slot, share, tenant);
     gate.pass(share.worker(), Point::Decided);
     let Ok(durable) = wait_for::<J, K>(tools.keeping, place) else {
+        if let Turn::Send { .. } = turn {
+            answer(tools, slot, share, tenant, Got::Fault);
+        }
         return Reply::Unkept;
     };
     match turn {

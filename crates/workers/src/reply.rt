@@ -59,7 +59,7 @@ pub enum Reply {
     Memory,
     /// There is no room to keep what would be decided (503). Nothing was decided.
     NoRoom,
-    /// The tenant has decided, and it is not known whether that is kept (503). Nothing was sent.
+    /// The tenant has decided, and it is not known whether that is kept (503). Nothing was sent, and nothing is held.
     Unkept,
     /// The tenant has decided, and its book has the answer (200).
     Decided,

@@ -146,9 +146,9 @@ static PACKETS: [Kept; 4] = [
         reply: Reply::Unkept,
         code: 503,
         sends: 0,
-        entries: 1,
+        entries: 2,
         seen: (1, 0, 0, 1),
-        gathered: (0, 0, 1_000, 1_500, 1),
+        gathered: (0, 0, 0, 0, 2),
     },
     Kept {
         title: "the answer is not kept",
