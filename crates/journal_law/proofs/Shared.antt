@@ -401,10 +401,10 @@ first_states (s ∷ starts) = ap (λ (bs : List State). opened s.opening ∷ bs)
 
 -- what was written of a journal that threads share
 so_far_of : {D : Type 0} (seen : D → List ℕ) (may_leave : D → List ℕ → Type 0) (openings : List Opening) (w : WriterState D) (fronts : List Front)
-    → (kept : IsWritten seen may_leave openings w fronts) → AreNumbered openings → recovered (seen kept.first.log.file) ≡ []
+    → (kept : IsWritten seen may_leave openings w fronts) → AreNumbered openings
     → UpTo (lines (recovered (seen w.log.file))) w.sum kept.first.sum (first_fronts openings) fronts
-so_far_of seen may_leave openings w fronts kept numbers none =
-    let led = commits_stepped seen openings kept.first (first_fronts openings) kept.texts fronts none
+so_far_of seen may_leave openings w fronts kept numbers =
+    let led = commits_stepped seen openings kept.first (first_fronts openings) kept.texts fronts kept.begins.new.none
     (first_in_place openings 0 (λ i o at. numbers i o at ∙ none_more i)) kept.whole kept.lines in
     subst (λ (sum : List ℕ). UpTo (lines (recovered (seen w.log.file))) sum kept.first.sum (first_fronts openings) fronts) (sym kept.sum)
     (subst (λ (records : List (List ℕ)). UpTo (lines records) (sum_after kept.first kept.texts) kept.first.sum (first_fronts openings) fronts) (sym kept.records) led)
@@ -430,13 +430,12 @@ text_written openings starts sum text commits others left are is stepped = recor
 }
 
 -- the log of a journal that threads share is written
-pub shared_is_written : {D : Type 0} (seen : D → List ℕ) (may_leave : D → List ℕ → Type 0) (openings : List Opening) (starts : List TenantStart) (w : WriterState D)
-    (fronts : List Front) → (kept : IsWritten seen may_leave openings w fronts) → AreNumbered openings → map (λ s. s.opening) starts ≡ openings
-    → recovered (seen kept.first.log.file) ≡ []
-    → IsTextWritten kept.first.sum (lines (recovered (seen w.log.file))) (states_of starts) (map (λ f. f.state) fronts)
-shared_is_written seen may_leave openings starts w fronts kept numbers are none =
-    let so_far = (so_far_of seen may_leave openings w fronts kept numbers none).so_far in
-    text_written openings starts kept.first.sum (lines (recovered (seen w.log.file))) so_far.commits [] fronts are
+pub shared_is_written : {D : Type 0} (seen : D → List ℕ) (may_leave : D → List ℕ → Type 0) (openings : List Opening) (w : WriterState D)
+    (fronts : List Front) → (kept : IsWritten seen may_leave openings w fronts) → AreNumbered openings
+    → IsTextWritten kept.first.sum (lines (recovered (seen w.log.file))) (states_of kept.begins.starts) (map (λ f. f.state) fronts)
+shared_is_written seen may_leave openings w fronts kept numbers =
+    let so_far = (so_far_of seen may_leave openings w fronts kept numbers).so_far in
+    text_written openings kept.begins.starts kept.first.sum (lines (recovered (seen w.log.file))) so_far.commits [] fronts kept.begins.openings_are
     (so_far.log_is ∙ sym (append-nil (summed kept.first.sum (map lines so_far.commits))))
     (subst (λ (ls : List (List ℕ)). AreStepped ls (first_fronts openings) fronts) (sym (append-nil (all_of so_far.commits))) so_far.stepped)
 
@@ -483,12 +482,14 @@ one_commit sum (b ∷ bs) before after own =
 
 -- A crash comes while a text is committed: what it leaves is written, and leaves fronts that come after those before the commit, and
 -- not after those that it leads to.
-pub crash_leaves : LineLaws → {D : Type 0} (seen : D → List ℕ) (may_leave : D → List ℕ → Type 0) (openings : List Opening) (starts : List TenantStart)
+pub crash_leaves : LineLaws → {D : Type 0} (seen : D → List ℕ) (may_leave : D → List ℕ → Type 0) (openings : List Opening)
     (w : WriterState D) (fronts after : List Front) (text : List ℕ) (n : ℕ) → (kept : IsWritten seen may_leave openings w fronts) → AreNumbered openings
-    → map (λ s. s.opening) starts ≡ openings → recovered (seen kept.first.log.file) ≡ [] → AreLinesOfAll openings fronts text after
-    → LeavesFronts starts kept.first.sum (lines (recovered (seen w.log.file) ++ take n (recovered (commit_text w.sum text)))) fronts after
-crash_leaves laws seen may_leave openings starts w fronts after text n kept numbers are none more =
-    let up = so_far_of seen may_leave openings w fronts kept numbers none in
+    → AreLinesOfAll openings fronts text after
+    → LeavesFronts kept.begins.starts kept.first.sum (lines (recovered (seen w.log.file) ++ take n (recovered (commit_text w.sum text)))) fronts after
+crash_leaves laws seen may_leave openings w fronts after text n kept numbers more =
+    let starts : List TenantStart = kept.begins.starts in
+    let are : map (λ s. s.opening) starts ≡ openings = kept.begins.openings_are in
+    let up = so_far_of seen may_leave openings w fronts kept numbers in
     let so_far = up.so_far in
     let own = (all_stepped openings 0 [] fronts text after refl up.in_place more).stepped in
     let one = one_commit w.sum text fronts after own in

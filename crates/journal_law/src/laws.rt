@@ -3,7 +3,8 @@
 ghost use Rattle.std.specs.Prelude.{◌≡◌, ◌++◌, ℕ, All, List, [], Ok, length, map, take};
 ghost use Rattle.book_journal.specs.Writer.{WriterState};
 ghost use Rattle.book_journal.specs.Written.{Written, commit_text};
-ghost use Rattle.book_log.specs.Base.{states_of};
+ghost use Rattle.book_log.specs.Base.{IsBase, admins_of, states_of};
+ghost use Rattle.book_log.specs.OneBase.{IsJournal, IsStart};
 ghost use Rattle.book_log.specs.declared.base.TenantStart.{TenantStart};
 ghost use Rattle.book_log.specs.Written.{IsLoggable, IsTextWritten};
 ghost use Rattle.books_shared.specs.Begun.{AreNumbered};
@@ -68,25 +69,30 @@ pub fn crashes_leave_the_first_records<D: LogFile, K: PeriodKeeper + Recorder>()
 {}
 
 /// The log of a journal that threads share (`Keeper`) is a written journal from the openings of its tenants on. It leaves the books to
-/// which these fronts of their histories led. Nothing was in it at first.
+/// which these fronts of their histories led.
 pub fn shared_log_is_written<D: LogFile>()
-    ensures { (openings : List Opening) (starts : List TenantStart) (w : WriterState D) (fronts : List Front)
-        → (kept : IsWritten D.seen D.may_leave openings w fronts) → AreNumbered openings → map (λ s. s.opening) starts ≡ openings
-        → recovered (D.seen kept.first.log.file) ≡ []
-        → IsTextWritten kept.first.sum (lines (recovered (D.seen w.log.file))) (states_of starts) (map (λ f. f.state) fronts) }
+    ensures { (openings : List Opening) (w : WriterState D) (fronts : List Front)
+        → (kept : IsWritten D.seen D.may_leave openings w fronts) → AreNumbered openings
+        → IsTextWritten kept.first.sum (lines (recovered (D.seen w.log.file))) (states_of kept.begins.starts) (map (λ f. f.state) fronts) }
 {}
 
 /// A crash comes while a text is committed to such a log. It leaves the records that were there, and the first of those of the text.
 /// That is a written journal, which leaves the books to which fronts of the tenants' histories led. They are at least those that were
 /// kept before, and at most those that the text leads to.
 pub fn crashes_leave_fronts<D: LogFile>()
-    ensures { (openings : List Opening) (starts : List TenantStart) (w : WriterState D) (fronts after : List Front) (text : List ℕ) (n : ℕ)
-        → (kept : IsWritten D.seen D.may_leave openings w fronts) → AreNumbered openings → map (λ s. s.opening) starts ≡ openings
-        → recovered (D.seen kept.first.log.file) ≡ [] → AreLinesOfAll openings fronts text after
-        → LeavesFronts starts kept.first.sum (lines (recovered (D.seen w.log.file) ++ take n (recovered (commit_text w.sum text)))) fronts after }
+    ensures { (openings : List Opening) (w : WriterState D) (fronts after : List Front) (text : List ℕ) (n : ℕ)
+        → (kept : IsWritten D.seen D.may_leave openings w fronts) → AreNumbered openings → AreLinesOfAll openings fronts text after
+        → LeavesFronts kept.begins.starts kept.first.sum (lines (recovered (D.seen w.log.file) ++ take n (recovered (commit_text w.sum text)))) fronts after }
 {
     book_log::laws::lines_are_read_back();
 }
+
+/// What a crash leaves beside the base is a journal of the books to which those fronts led. So `book_log::reopen` gives just these.
+pub fn left_fronts_are_a_journal()
+    ensures { (starts : List TenantStart) (base sum text : List ℕ) (first last : List Front)
+        → (leaves : LeavesFronts starts sum text first last) → All IsStart starts → IsBase base starts sum
+        → IsJournal base text (map (λ f. f.state) leaves.left) (admins_of starts) }
+{}
 
 /// A front of the records of a written log, as a crash leaves it, is a written log.
 pub fn fronts_are_written()

@@ -13,13 +13,14 @@ use Rattle.book_log.specs.declared.line.LinePlace.{LinePlace}
 use Rattle.workers.specs.declared.keeping.JournalPlace.{JournalPlace}
 use Rattle.journal_shared.specs.Fronts.{Front, end_of}
 use Rattle.journal_shared.specs.Progress.{IsSaid}
-use Rattle.journal_shared.specs.Kept.{AreLinesOfAll, IsKept, IsWritten, covers, first_fronts, records_after}
+use Rattle.journal_shared.specs.Kept.{AreLinesOfAll, BeginsLog, IsKept, IsWritten, covers, first_fronts, records_after}
 
 -- nothing is written yet
 pub written_first : {D : Type 0} (seen : D → List ℕ) (may_leave : D → List ℕ → Type 0) (openings : List Opening) (w : WriterState D)
-    → IsWritten seen may_leave openings w (first_fronts openings)
-written_first seen may_leave openings w = record {
+    → BeginsLog seen may_leave openings w → IsWritten seen may_leave openings w (first_fronts openings)
+written_first seen may_leave openings w begins = record {
   first = w;
+  begins = begins;
   texts = [];
   records = refl;
   sum = refl;
@@ -34,6 +35,7 @@ pub written_more : {D : Type 0} (seen : D → List ℕ) (may_leave : D → List 
     → AreCommitted seen text w after → IsSettled seen may_leave after.log → IsWritten seen may_leave openings after to
 written_more seen may_leave openings w after from to text old lines done settled = record {
   first = old.first;
+  begins = old.begins;
   texts = text ∷ old.texts;
   records = done.acknowledged ∙ ap (λ (rs : List (List ℕ)). rs ++ recovered (commit_text w.sum text)) old.records
       ∙ ap (λ (s : List ℕ). records_after seen old.first old.texts ++ recovered (commit_text s text)) old.sum;
@@ -63,6 +65,7 @@ pub written_none : {D : Type 0} (seen : D → List ℕ) (may_leave : D → List 
     → IsWritten seen may_leave openings w to
 written_none seen may_leave openings w from to old lines = record {
   first = old.first;
+  begins = old.begins;
   texts = [] ∷ old.texts;
   records = old.records ∙ sym (append-nil (records_after seen old.first old.texts));
   sum = old.sum;

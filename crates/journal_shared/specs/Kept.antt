@@ -1,8 +1,11 @@
 -- What is kept on disk of what was done to books under locks.
-use Rattle.std.specs.Prelude.{ℕ, ◌≡◌, ◌⊎◌, ◌==◌, ◌||◌, ◌&&◌, Bool, true, List, [], ◌∷◌, ◌++◌, All, map, Option, None, Some, nat_le, nat_lt}
+use Rattle.std.specs.Prelude.{ℕ, ◌≡◌, ◌⊎◌, ◌==◌, ◌||◌, ◌&&◌, Bool, true, false, List, [], ◌∷◌, ◌++◌, All, map, Option, None, Some, nat_le, nat_lt}
 use Rattle.std.specs.List.{slice_get}
 use Rattle.tenant_core.specs.declared.opening.Opening.{Opening}
+use Rattle.line_log.specs.File.{Only}
 use Rattle.line_log.specs.Log.{IsLines, IsSettled, recovered}
+use Rattle.book_log.specs.Base.{IsBase}
+use Rattle.book_log.specs.declared.base.TenantStart.{TenantStart}
 use Rattle.book_log.specs.declared.line.LinePlace.{LinePlace}
 use Rattle.book_journal.specs.Writer.{WriterState}
 use Rattle.book_journal.specs.Written.{commit_text, sum_after_commit}
@@ -49,11 +52,28 @@ abbrev pub AreWhole : {D : Type 0} → WriterState D → List (List ℕ) → Typ
 AreWhole w [] = Unit {0}
 AreWhole w (text ∷ earlier) = IsLines (commit_text (sum_after w earlier) text) × AreWhole w earlier
 
--- A log has a line for each step of these fronts of the tenants' histories, each commit with its sum, after what was in it at first,
+-- a writer whose log is on the disk, and has no record after the base of these tenants
+pub record IsNewLog {D : Type 0} (seen : D → List ℕ) (may_leave : D → List ℕ → Type 0) (starts : List TenantStart) (writer : WriterState D)
+    : Type 0 where
+  pub base : List ℕ
+  pub based : IsBase base starts writer.sum
+  pub none : recovered (seen writer.log.file) ≡ []
+  pub durable : Only (seen writer.log.file) (may_leave writer.log.file)
+  pub sound : writer.spoilt ≡ false
+
+-- the same, of tenants with these openings
+pub record BeginsLog {D : Type 0} (seen : D → List ℕ) (may_leave : D → List ℕ → Type 0) (openings : List Opening) (writer : WriterState D)
+    : Type 0 where
+  pub starts : List TenantStart
+  pub openings_are : map (λ s. s.opening) starts ≡ openings
+  pub new : IsNewLog seen may_leave starts writer
+
+-- A log has a line for each step of these fronts of the tenants' histories, each commit with its sum, after the base of the tenants,
 -- and no others. It is settled, so each crash leaves all of it, unless no text was committed yet.
 pub record IsWritten {D : Type 0} (seen : D → List ℕ) (may_leave : D → List ℕ → Type 0) (openings : List Opening) (w : WriterState D)
     (fronts : List Front) : Type 0 where
   pub first : WriterState D
+  pub begins : BeginsLog seen may_leave openings first
   pub texts : List (List ℕ)
   pub records : recovered (seen w.log.file) ≡ records_after seen first texts
   pub sum : w.sum ≡ sum_after first texts

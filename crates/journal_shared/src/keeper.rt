@@ -15,8 +15,9 @@ use line_log::LogFile;
 use one_list::{Run, Watcher};
 use std::sync::atomic::Ordering;
 use std::sync::{Condvar, Wait};
+use std::time::{Clock, Duration, Instant};
 use tenant_core::Period;
-use workers::{JournalPlace, Keeping, NotKept, place_after};
+use workers::{JournalPlace, Keeping, NotKept, left_until};
 
 /// Who keeps what is done to the books: in the journal on disk, if there is one, and otherwise nowhere.
 #[derive(Drop)]
@@ -26,7 +27,7 @@ pub struct Keeper<'a, H, D: LogFile, J: Run> {
     pub journal: &'a Option<SharedJournal<D, J>>,
 }
 
-impl<H: Wait, D: LogFile + Drop, J: Run> Keeper<'_, H, D, J> {
+impl<H: Wait + Clock, D: LogFile + Drop, J: Run> Keeper<'_, H, D, J> {
     // Appends lines of what the book of a tenant has got, from that place on. That is the place after them. The book's lock is held
     // meanwhile.
     fn note(
@@ -76,10 +77,12 @@ impl<H: Wait, D: LogFile + Drop, J: Run> Keeper<'_, H, D, J> {
         requires ready { IsReady D.seen D.may_leave J.openings pen.old }
         ensures ready { OnOk result (IsReady D.seen D.may_leave J.openings pen.new) }
     {
+        journal.writes.begin(self.handle);
         let written = match self.note_all(journal, pen) {
             Ok(()) => pen.commit(),
             Err(fault) => Err(fault),
         };
+        journal.writes.end(self.handle, written.is_ok());
         journal.left.store(pen.left(), Ordering::SeqCst);
         if written.is_err() {
             journal.has_failed.store(true, Ordering::SeqCst);
@@ -87,10 +90,20 @@ impl<H: Wait, D: LogFile + Drop, J: Run> Keeper<'_, H, D, J> {
         written
     }
 
-    // Waits until all records of a tenant before a place are kept, or nothing more is, and writes them if nobody else does.
+    // Until when a thread waits that begins to wait now.
+    fn longest_until(&self, journal: &SharedJournal<D, J>) -> Option<Instant> {
+        let now = Instant::now(self.handle).ok()?;
+        now.checked_add(Duration::from_millis(journal.limits.longest_wait))
+    }
+
+    // Waits until all records of a tenant before a place are kept, and writes them if nobody else does. The wait ends early if
+    // nothing more is kept, or if another thread writes for too long.
     fn wait_in(&self, journal: &SharedJournal<D, J>, bell: &Condvar, place: JournalPlace) -> bool
         ensures { result ≡ true → IsKept D.seen D.may_leave J.openings place }
     {
+        let Some(until) = self.longest_until(journal) else {
+            return false;
+        };
         let mut progress = journal.progress.lock(self.handle);
         for _ in self.handle.forever() {
             if progress.has_failed() {
@@ -100,7 +113,13 @@ impl<H: Wait, D: LogFile + Drop, J: Run> Keeper<'_, H, D, J> {
                 return true;
             }
             match progress.take_pen() {
-                None => progress = bell.wait(self.handle, progress),
+                None => {
+                    let left = left_until(self.handle, until);
+                    if left.is_zero() {
+                        return false;
+                    }
+                    progress = bell.wait_timeout(self.handle, progress, left).0;
+                }
                 Some(mut pen) => {
                     drop(progress);
                     let written = self.write(journal, &mut pen);
@@ -117,28 +136,16 @@ impl<H: Wait, D: LogFile + Drop, J: Run> Keeper<'_, H, D, J> {
         }
         unreachable!()
     }
-
-    /// Waits until all that was done to all books until now is kept.
-    pub fn settle(&self) -> Result<(), NotKept> {
-        if self.journal.is_none() {
-            return Ok(());
-        }
-        for tenant in 0..self.books.tenants() {
-            let place = place_after(self.books.enter(self.handle, tenant).book());
-            self.wait(place)?;
-        }
-        Ok(())
-    }
 }
 
-impl<H: Wait, D: LogFile + Drop, J: Run> Keeping<J> for Keeper<'_, H, D, J> {
+impl<H: Wait + Clock, D: LogFile + Drop, J: Run> Keeping<J> for Keeper<'_, H, D, J> {
     ghost keeps = { λ k place. IsKeptIn D.seen D.may_leave J.openings k.journal.now place };
 
     ghost fails = { λ k. is_some k.journal.now ≡ true };
 
     fn has_room(&self, _tenant: usize) -> bool {
         match self.journal {
-            Some(journal) => journal.has_room(),
+            Some(journal) => journal.has_room(self.handle),
             None => true,
         }
     }

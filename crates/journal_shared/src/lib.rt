@@ -11,6 +11,7 @@ mod noted;
 mod pen;
 mod progress;
 mod shared;
+mod writes;
 
 pub use keeper::Keeper;
-pub use shared::SharedJournal;
+pub use shared::{Limits, SharedJournal};

@@ -2,11 +2,12 @@
 
 ghost use Rattle.std.specs.Prelude.{◌≡◌, IfOk};
 ghost use Rattle.books_shared.specs.Begun.{AreNumbered};
-ghost use Rattle.journal_shared.specs.Kept.{ends_of, first_fronts};
+ghost use Rattle.journal_shared.specs.Kept.{BeginsLog, ends_of, first_fronts};
 
 use crate::noted::Noted;
 use crate::pen::Pen;
 use crate::progress::Progress;
+use crate::writes::Writes;
 use book_journal::LogWriter;
 use book_log::LinePlace;
 use books_shared::Books;
@@ -15,7 +16,21 @@ use one_list::Run;
 use std::alloc::{AllocError, Global};
 use std::sync::atomic::{AtomicBool, AtomicU64, Ordering};
 use std::sync::{Condvar, Mutex};
+use std::time::{Clock, Instant};
 use tenant_core::Opening;
+
+/// What a journal that threads share is held to.
+#[derive(Clone, Copy)]
+pub struct Limits {
+    /// When the service began.
+    pub begun: Instant,
+    /// How many bytes of the log are left free for what is under way.
+    pub reserve: u64,
+    /// For how many milliseconds a thread waits while another one writes.
+    pub longest_wait: u64,
+    /// How many milliseconds a write may take. While it takes longer there is no room for more.
+    pub longest_write: u64,
+}
 
 /// A journal on disk, as threads share it.
 ///
@@ -30,9 +45,9 @@ pub struct SharedJournal<D: LogFile, J: Run> {
     pub(crate) bells: Vec<Condvar>,
     // How many bytes of the log are left.
     pub(crate) left: AtomicU64,
-    // How many of them are for what is under way.
-    reserve: u64,
     pub(crate) has_failed: AtomicBool,
+    pub(crate) writes: Writes,
+    pub(crate) limits: Limits,
 }
 
 // The places of the first records of these tenants.
@@ -51,17 +66,18 @@ fn first_places(alloc: Global, openings: &[Opening]) -> Result<Vec<LinePlace>, A
 }
 
 impl<D: LogFile + Drop, J: Run> SharedJournal<D, J> {
-    /// The journal that is written so, of these books, to which nothing has happened since these openings. So many bytes of its log are
-    /// left free for what is under way (`has_room`). Fails only if it is out of memory.
+    /// The journal that is written so, of these books, to which nothing has happened since these openings. Nothing is in its log yet.
+    /// Fails only if it is out of memory.
     pub fn new(
         alloc: Global,
         writer: LogWriter<D>,
         openings: &[Opening],
         books: &Books<J>,
-        reserve: u64,
+        limits: Limits,
     ) -> Result<SharedJournal<D, J>, AllocError>
         requires openings { J.openings ≡ openings.now }
         requires numbers { AreNumbered openings.now }
+        requires begins { BeginsLog D.seen D.may_leave openings.now writer }
     {
         let (mut notes, mut bells) = (Vec::new(alloc), Vec::new(alloc));
         for opening in openings {
@@ -81,14 +97,15 @@ impl<D: LogFile + Drop, J: Run> SharedJournal<D, J> {
             progress: Mutex::new(progress),
             bells,
             left: AtomicU64::new(left),
-            reserve,
             has_failed: AtomicBool::new(false),
+            writes: Writes::new(limits.begun),
+            limits,
         })
     }
 
-    /// Whether it can't be written any more.
-    pub fn has_failed(&self) -> bool {
-        self.has_failed.load(Ordering::SeqCst)
+    /// Whether nothing more is kept: it could not be written, or its log has no room for what is under way.
+    pub fn is_lost(&self) -> bool {
+        self.has_failed.load(Ordering::SeqCst) || self.left() < self.limits.reserve
     }
 
     /// How many bytes of its log are left.
@@ -96,8 +113,23 @@ impl<D: LogFile + Drop, J: Run> SharedJournal<D, J> {
         self.left.load(Ordering::SeqCst)
     }
 
-    /// Whether there is room for what one more packet or command may record.
-    pub fn has_room(&self) -> bool {
-        !self.has_failed() && self.left() >= self.reserve
+    /// For how many milliseconds the write that is under way has taken; none if none is.
+    pub fn write_time(&self, clock: &impl Clock) -> u64 {
+        self.writes.time(clock)
+    }
+
+    /// How many milliseconds ago the last write was synced. At first that is when the service began.
+    pub fn since_sync(&self, clock: &impl Clock) -> u64 {
+        self.writes.since_sync(clock)
+    }
+
+    /// Whether the write that is under way takes longer than it may.
+    pub fn has_stalled(&self, clock: &impl Clock) -> bool {
+        self.write_time(clock) > self.limits.longest_write
+    }
+
+    /// Whether there is room for what one more packet or command may record: it is not lost, and it has not stalled.
+    pub fn has_room(&self, clock: &impl Clock) -> bool {
+        !self.is_lost() && !self.has_stalled(clock)
     }
 }

@@ -1,14 +1,14 @@
 -- What a service begins with, without a journal and with one.
-use Rattle.std.specs.Prelude.{ℕ, ◌≡◌, ◌≤◌, false, List, [], length, map, max, IfSome, Some}
+use Rattle.std.specs.Prelude.{ℕ, ◌≡◌, ◌≤◌, List, length, map, max, IfSome, Some}
 use Rattle.admin_text.specs.declared.setup.Setup.{Setup}
 use Rattle.book_journal.specs.Writer.{WriterState}
-use Rattle.book_log.specs.Base.{AreReopened, IsBase}
+use Rattle.book_log.specs.Base.{AreReopened}
 use Rattle.book_log.specs.declared.base.TenantStart.{TenantStart}
 use Rattle.book_recovery.specs.Recovery.{all_given_up}
 use Rattle.books_shared.specs.Begun.{AreNumbered}
 use Rattle.books_shared.specs.Traced.{openings_of}
-use Rattle.line_log.specs.File.{Only}
 use Rattle.line_log.specs.Log.{lines, recovered}
+use Rattle.journal_shared.specs.Kept.{BeginsLog, IsNewLog}
 use Rattle.log_folder.specs.Disk.{disk_may_leave, disk_seen}
 use Rattle.tenant_core.specs.Limits.{max_tenants}
 use Rattle.tenant_core.specs.Periods.{next_opening}
@@ -25,15 +25,6 @@ pub record IsFit (begun : Beginning) : Type 0 where
   pub few : length begun.setup.tenants ≤ max_tenants
   pub each : length begun.openings.items ≡ length begun.setup.tenants
   pub numbered : AreNumbered begun.openings.items
-
--- a writer whose log is on the disk, and has no record after the base of these tenants
-pub record IsNewLog {D : Type 0} (seen : D → List ℕ) (may_leave : D → List ℕ → Type 0) (starts : List TenantStart) (writer : WriterState D)
-    : Type 0 where
-  pub base : List ℕ
-  pub based : IsBase base starts writer.sum
-  pub none : recovered (seen writer.log.file) ≡ []
-  pub durable : Only (seen writer.log.file) (may_leave writer.log.file)
-  pub sound : writer.spoilt ≡ false
 
 -- A service begins with a setup: with its tenants, and the first period of each. If it keeps a journal, that begins with these.
 pub record HasBegun (setup : Setup) (begun : Beginning) : Type 0 where
@@ -68,3 +59,7 @@ pub record GoesOn (begun : Beginning) : Type 0 where
   pub writer : WriterState _
   pub journal : begun.journal ≡ Some writer
   pub new : IsNewLog disk_seen disk_may_leave starts writer
+
+-- if a service keeps a journal, that has nothing yet after the base of its tenants, with these openings
+abbrev pub HasNewLog : Beginning → Type 0
+HasNewLog begun = IfSome begun.journal (BeginsLog disk_seen disk_may_leave begun.openings.items)

@@ -3,9 +3,10 @@
 ghost use Rattle.std.specs.Prelude.{◌≡◌, ◌⊎◌, ◌<◌, ◌≤◌, List, IfOk, OnOk, IsNone, length};
 ghost use Rattle.books_shared.specs.Begun.{AreNumbered};
 ghost use Rattle.books_shared.specs.Traced.{openings_of};
+ghost use Rattle.journal_shared.specs.Kept.{IsNewLog};
 ghost use Rattle.log_folder.specs.Disk.{disk_may_leave, disk_seen};
 ghost use Rattle.tenant_core.specs.Limits.{max_tenants};
-ghost use Rattle.subcommands.specs.Beginning.{HasBegun, IsFit, IsNewLog, GoesOn};
+ghost use Rattle.subcommands.specs.Beginning.{HasBegun, HasNewLog, IsFit, GoesOn};
 
 use crate::checking::printing;
 use crate::continuing::go_on;
@@ -193,4 +194,26 @@ pub fn begin_in<R: Files<File = File> + Disk + Clock + Print + AllocGlobal>(
     let begun = go_on(rt, folder, path, number, statements)?;
     say_pair(rt, path, number.saturating_add(1))?;
     Ok(begun)
+}
+
+/// A service begins: with its setup, or, if it keeps a journal in that folder, with what that leads to. Statements of the periods that
+/// are closed then are kept if a folder for them is named.
+#[tactic(auto, using(crate::proofs::Openings::has_none))]
+pub fn begin<R: Files<File = File> + Disk + Clock + Print + AllocGlobal>(
+    rt: &R,
+    folder: &mut Option<LogFolder<'_, R>>,
+    path: Option<&str>,
+    text: &[u8],
+    setup: Setup,
+    statements: Option<&str>,
+) -> Result<Beginning, Ending>
+    ensures { IfOk result HasNewLog }
+{
+    if let (Some(folder), Some(path)) = (folder, path) {
+        return begin_in(rt, folder, path, text, setup, statements);
+    }
+    match begin_without(rt.alloc(), setup) {
+        Ok(begun) => Ok(begun),
+        Err(error) => Err(memory_refused(error)),
+    }
 }

@@ -5,7 +5,7 @@ ghost use Rattle.allotment.specs.Loans.{max_places};
 ghost use Rattle.books_shared.specs.Gathers.{max_workers};
 ghost use Rattle.tenant_core.specs.Limits.{max_tenants};
 
-use crate::beginning::{Beginning, begin_in, begin_without, expect_fit, open_journal};
+use crate::beginning::{Beginning, begin, expect_fit, open_journal};
 use crate::checking::printing;
 use crate::clock::SystemClock;
 use crate::ending::Ending;
@@ -262,10 +262,7 @@ fn serve_by<
         text,
         mut folder,
     } = ready;
-    let begun = match (&mut folder, line.journal) {
-        (Some(folder), Some(path)) => begin_in(rt, folder, path, text, setup, plan.statements)?,
-        _ => begin_without(rt.alloc(), setup).map_err(memory_refused)?,
-    };
+    let begun = begin(rt, &mut folder, line.journal, text, setup, plan.statements)?;
     expect_fit(&begun).map_err(Ending::of_journal)?;
     say_doors(rt, line)?;
     warn(rt, plan.extent, begun.setup.tenants.as_slice().len());

@@ -41,7 +41,7 @@ pub trait Keeping<J: Run> {
 
     /// Waits until all records of a tenant before that place are kept. No lock is held meanwhile.
     ///
-    /// `NotKept` if it has failed. Then nothing more is kept.
+    /// `NotKept` if it has failed, and then nothing more is kept, or if it takes too long.
     fn wait(&self, place: JournalPlace) -> Result<(), NotKept>
         ensures kept { OnOk result (keeps self.now place) }
         ensures failed { OnErr result (fails self.now) };

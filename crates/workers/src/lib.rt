@@ -24,3 +24,4 @@ pub use reply::{Reply, Status};
 pub use rolling::{is_ripe, roll_if_ripe};
 pub use tools::Tools;
 pub use traits::{Clock, Gate, Link, Outgoing, Point};
+pub use until::left_until;

@@ -3,7 +3,7 @@
 use std::time::{Clock, Duration, Instant};
 
 /// How much time is left until that moment; none if the clock can't be read.
-pub(crate) fn left_until(clock: &impl Clock, until: Instant) -> Duration {
+pub fn left_until(clock: &impl Clock, until: Instant) -> Duration {
     match Instant::now(clock) {
         Ok(now) => until.saturating_duration_since(now),
         Err(_) => Duration::ZERO,

@@ -1,6 +1,6 @@
 //! What a service begins with.
 
-ghost use Rattle.std.specs.Prelude.{ℕ, ◌≡◌, ◌≤◌, length, map, vec_len, true, All, IfOk, is_some};
+ghost use Rattle.std.specs.Prelude.{ℕ, ◌≡◌, ◌≤◌, length, map, vec_len, true, All, IfOk, IfSome, is_some, option_copied, option_map, string_bytes};
 ghost use Rattle.allotment.specs.Loans.{max_places};
 ghost use Rattle.tenant_core.specs.Limits.{max_tenants};
 ghost use Rattle.meters.specs.Seats.{count_of, empty_seat};
@@ -8,6 +8,8 @@ ghost use Rattle.meters.specs.declared.kind.Kind as meter;
 ghost use Rattle.books_shared.specs.Gathers.{max_workers};
 ghost use Rattle.books_shared.specs.Shares.{fresh_shares};
 ghost use Rattle.books_shared.specs.Begun.{AreNumbered};
+ghost use Rattle.journal_shared.specs.Kept.{BeginsLog};
+ghost use Rattle.log_folder.specs.Disk.{disk_may_leave, disk_seen};
 ghost use Rattle.service.specs.Answering.{IsUncounted, IsOfficeOf};
 
 use crate::connection::door::Door;
@@ -19,7 +21,7 @@ use admin_text::Setup;
 use book_journal::LogWriter;
 use books_shared::{Books, Share};
 use common_types::ReadError;
-use journal_shared::SharedJournal;
+use journal_shared::{Limits, SharedJournal};
 use log_folder::DiskFile;
 use meters::{MeterSeat, Meters};
 use one_list::{Opened, Run};
@@ -32,6 +34,12 @@ use workers::{Backlog, Places};
 /// As many bytes of the log are left free for what is under way: two records of the longest for each connection.
 const RESERVE: u64 = 16_777_216;
 
+/// For how many milliseconds a packet, a command or a question waits while somebody else writes the log.
+const LONGEST_WAIT: u64 = 10_000;
+
+/// How many milliseconds a write of the log may take until packets and commands are refused.
+const LONGEST_WRITE: u64 = 1_000;
+
 /// What a service is given to begin with.
 #[derive(Drop)]
 pub struct Start<'a> {
@@ -39,7 +47,7 @@ pub struct Start<'a> {
     pub setup: &'a Setup,
     /// What each tenant's first period in this run begins with.
     pub openings: &'a [Opening],
-    /// What writes the journal of what is done to their books, if one is kept.
+    /// What writes the journal of what is done to their books, if one is kept. Its log has nothing yet after the base of these openings.
     pub journal: Option<LogWriter<DiskFile>>,
 }
 
@@ -69,6 +77,7 @@ pub fn open_office<J: Run>(
     requires openings { J.openings ≡ start.openings.now }
     requires as_many { length start.openings.now ≡ length start.setup.now.tenants }
     requires numbers { AreNumbered start.openings.now }
+    requires journal { IfSome start.journal (BeginsLog disk_seen disk_may_leave start.openings.now) }
     requires tenants { (1 ≤ length start.setup.now.tenants) × (length start.setup.now.tenants ≤ max_tenants) }
     requires workers { (1 ≤ plan.extent.workers) × (plan.extent.workers ≤ max_places) }
     requires desks { (1 ≤ desks) × (desks ≤ max_workers) }
@@ -77,6 +86,8 @@ pub fn open_office<J: Run>(
     ensures zero { IfOk result (λ begun. (tenant : ℕ) (kind : meter.Kind) → count_of tenant kind begun.first ≡ 0) }
     ensures admin { IfOk result (λ begun. begun.office.admin ≡ plan.entry.admin) }
     ensures journal { IfOk result (λ begun. is_some begun.office.journal ≡ is_some start.entry.journal) }
+    ensures statements { IfOk result (λ begun. option_map (λ f. string_bytes f.folder) begun.office.filing ≡ option_copied plan.entry.statements) }
+    ensures roll_at { IfOk result (λ begun. begun.office.roll_at ≡ plan.entry.roll_at) }
     ensures each { IfOk result (λ begun. vec_len begun.shares ≡ desks) }
     ensures fresh { IfOk result (λ begun. All IsUncounted begun.shares.items) }
 {
@@ -94,7 +105,7 @@ pub fn open_office<J: Run>(
     } = start;
     let tenants = setup.tenants.as_slice();
     let (books, shares) = begun_books(alloc, opened, openings, desks, report.audit)?;
-    let journal = journal_of(alloc, journal, openings, &books)?;
+    let journal = journal_of(alloc, begun, journal, openings, &books)?;
     let (meters, first) = Meters::new(alloc, tenants.len())?;
     let office = Office {
         names: setup.names(alloc)?,
@@ -141,21 +152,29 @@ fn begun_books<J: Run>(
     }
 }
 
-// The journal that is written so, of these books, which begin so.
+// The journal that is written so, of these books, which begin so, of a service that began at that moment.
 fn journal_of<J: Run>(
     alloc: Global,
+    begun: Instant,
     writer: Option<LogWriter<DiskFile>>,
     openings: &[Opening],
     books: &Books<J>,
 ) -> Result<Option<SharedJournal<DiskFile, J>>, AllocError>
     requires openings { J.openings ≡ openings.now }
     requires numbers { AreNumbered openings.now }
+    requires new { IfSome writer (BeginsLog disk_seen disk_may_leave openings.now) }
     ensures { IfOk result (λ journal. is_some journal ≡ is_some writer) }
 {
-    match writer {
-        Some(writer) => Ok(Some(SharedJournal::new(alloc, writer, openings, books, RESERVE)?)),
-        None => Ok(None),
-    }
+    let Some(writer) = writer else {
+        return Ok(None);
+    };
+    let limits = Limits {
+        begun,
+        reserve: RESERVE,
+        longest_wait: LONGEST_WAIT,
+        longest_write: LONGEST_WRITE,
+    };
+    Ok(Some(SharedJournal::new(alloc, writer, openings, books, limits)?))
 }
 
 // The places that so many tenants share.
@@ -172,7 +191,9 @@ fn filing_of(
     alloc: Global,
     folder: Option<&str>,
     tenants: usize,
-) -> Result<Option<Filing>, AllocError> {
+) -> Result<Option<Filing>, AllocError>
+    ensures { IfOk result (λ filing. option_map (λ f. string_bytes f.folder) filing ≡ option_copied folder.entry) }
+{
     let Some(path) = folder else {
         return Ok(None);
     };

@@ -7,6 +7,8 @@ ghost use Rattle.std.specs.Option.{option_to_list};
 ghost use Rattle.allotment.specs.Loans.{max_places};
 ghost use Rattle.books_shared.specs.Gathers.{max_workers};
 ghost use Rattle.books_shared.specs.Begun.{AreNumbered};
+ghost use Rattle.journal_shared.specs.Kept.{BeginsLog};
+ghost use Rattle.log_folder.specs.Disk.{disk_may_leave, disk_seen};
 ghost use Rattle.tenant_core.specs.Limits.{max_tenants};
 ghost use Rattle.std.specs.Fmt.{decimal};
 ghost use Rattle.meters.specs.Seats.{count_of, max_splits};
@@ -618,6 +620,7 @@ pub fn serve<
 ) -> Result<(), ServeFault>
     requires as_many { length start.openings.now ≡ length start.setup.now.tenants }
     requires numbers { AreNumbered start.openings.now }
+    requires journal { IfSome start.journal (BeginsLog disk_seen disk_may_leave start.openings.now) }
     requires tenants { (1 ≤ length start.setup.now.tenants) × (length start.setup.now.tenants ≤ max_tenants) }
     requires workers { (1 ≤ plan.extent.workers) × (plan.extent.workers ≤ max_places) }
     requires connections { (1 ≤ plan.extent.connections) × (plan.extent.connections ≤ max_workers) }
@@ -659,6 +662,7 @@ fn serve_run<
     requires openings { J.openings ≡ start.openings.now }
     requires as_many { length start.openings.now ≡ length start.setup.now.tenants }
     requires numbers { AreNumbered start.openings.now }
+    requires journal { IfSome start.journal (BeginsLog disk_seen disk_may_leave start.openings.now) }
     requires tenants { (1 ≤ length start.setup.now.tenants) × (length start.setup.now.tenants ≤ max_tenants) }
     requires workers { (1 ≤ plan.extent.workers) × (plan.extent.workers ≤ max_places) }
     requires connections { (1 ≤ plan.extent.connections) × (plan.extent.connections ≤ max_workers) }

@@ -1,26 +1,34 @@
 //! Packets of which all is kept in a journal, in a file that fails at some call.
 
-ghost use Rattle.std.specs.Prelude.{◌≡◌, ◌<◌};
+ghost use Rattle.std.specs.Prelude.{◌≡◌, ◌<◌, false, IfOk, map, replicate};
 ghost use Rattle.books_shared.specs.Begun.{AreNumbered};
+ghost use Rattle.journal_shared.specs.Kept.{BeginsLog};
+ghost use Rattle.line_log.specs.File.{Only};
 
 use super::{FixedClock, Open, filled, start, two_setups};
 use book_journal::LogWriter;
+use book_log::{TenantStart, write_base};
 use books_shared::{Books, Share, are_numbered};
+use common_types::Token;
 use floor_core::{Got, Slot};
-use journal_shared::{Keeper, SharedJournal};
-use line_log::{Log, Memory};
+use journal_shared::{Keeper, Limits, SharedJournal};
+use line_log::{Log, LogFile, Memory};
 use meters::Meters;
 use one_list::{Opened, Run};
 use std::alloc::Global;
 use std::marker::Brand;
 use std::sync::Wait;
 use std::test::Fail;
+use std::time::{Clock, Instant};
 use tenant_core::Opening;
 use test_texts::frame;
 use workers::{Job, Keeping, Link, Outgoing, Reply, Tools, carry};
 
 // How many bytes are left free for what is under way.
 const RESERVE: u64 = 4_096;
+
+// How many milliseconds a wait and a write may take: more than any here takes.
+const LONGEST: u64 = 60_000;
 
 // Room for what is under way, and as much for what is done.
 const LARGE: usize = 8_192;
@@ -162,8 +170,43 @@ fn two_openings(alloc: Global) -> Result<[Opening; 2], Fail> {
     Ok([acme, beta])
 }
 
+// What these tenants begin with.
+fn two_starts(alloc: Global, openings: &[Opening; 2]) -> Result<[TenantStart; 2], Fail>
+    ensures { IfOk result (λ starts. map (λ s. s.opening) starts ≡ openings.now) }
+{
+    let [acme, beta] = openings;
+    Ok([
+        TenantStart {
+            opening: acme.copy(alloc)?,
+            admin: Token::new(b"root-acme").ok_or("a token")?,
+        },
+        TenantStart {
+            opening: beta.copy(alloc)?,
+            admin: Token::new(b"root-beta").ok_or("a token")?,
+        },
+    ])
+}
+
+// What writes the log of these tenants into a file of that many zeros.
+fn writer_in<D: LogFile + Drop>(
+    alloc: Global,
+    openings: &[Opening; 2],
+    file: D,
+    size: usize,
+) -> Result<LogWriter<D>, Fail>
+    requires sound { D.has_failed file ≡ false }
+    requires zeros { D.seen file ≡ replicate size 0 }
+    requires on_disk { Only (D.seen file) (D.may_leave file) }
+    requires some { 0 < size }
+    ensures { IfOk result (BeginsLog D.seen D.may_leave openings.now) }
+{
+    let starts = two_starts(alloc, openings)?;
+    let (_, sum) = write_base(alloc, &starts)?;
+    Ok(LogWriter::new(Log::blank(file, size), sum))
+}
+
 // What becomes of two packets of alice's, one after the other, whose records are kept in such a file.
-fn fate_on<J: Run, R: Wait + AllocGlobal>(
+fn fate_on<J: Run, R: Wait + Clock + AllocGlobal>(
     rt: &R,
     opened: Opened,
     openings: &[Opening; 2],
@@ -183,8 +226,14 @@ fn fate_on<J: Run, R: Wait + AllocGlobal>(
     };
     let mut share = shares.pop().ok_or("a share")?;
     let file = Memory::new(alloc, vec![in alloc; 0; disk.size]?, disk.calls);
-    let writer = LogWriter::new(Log::blank(file, disk.size), [0; 32]);
-    let journal = Some(SharedJournal::<Memory, J>::new(alloc, writer, openings, &books, RESERVE)?);
+    let writer = writer_in(alloc, openings, file, disk.size)?;
+    let limits = Limits {
+        begun: Instant::now(rt)?,
+        reserve: RESERVE,
+        longest_wait: LONGEST,
+        longest_write: LONGEST,
+    };
+    let journal = Some(SharedJournal::<Memory, J>::new(alloc, writer, openings, &books, limits)?);
     let keeper = Keeper {
         handle: rt,
         books: &books,
@@ -235,7 +284,7 @@ fn two_packets<J: Run, R: Wait + AllocGlobal, K: Keeping<J>>(
 }
 
 // The same, of books that have just begun.
-fn fate_of<R: Wait + AllocGlobal>(
+fn fate_of<R: Wait + Clock + AllocGlobal>(
     rt: &R,
     openings: &[Opening; 2],
     disk: &Disk,

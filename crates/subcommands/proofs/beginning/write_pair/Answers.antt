@@ -1,7 +1,7 @@
 use Rattle.std.proofs.Common.{◌≡◌, rules, refl, sym, subst}
 use Rattle.book_journal.specs.Writer.{WriterState}
 use Rattle.log_folder.specs.Disk.{disk_may_leave, disk_seen}
-use Rattle.subcommands.specs.Beginning.{IsNewLog}
+use Rattle.journal_shared.specs.Kept.{IsNewLog}
 use Rattle.subcommands.proofs.beginning.write_pair.Goals as goal
 
 pub returns : goal.returns
