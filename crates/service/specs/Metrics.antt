@@ -1,5 +1,5 @@
 -- What the metrics of a service say, in the text format of Prometheus (version 0.0.4).
-use Rattle.std.specs.Prelude.{ℕ, ◌≡◌, Bool, true, false, List, [], ◌∷◌, ◌++◌, codes, length, Some}
+use Rattle.std.specs.Prelude.{ℕ, ◌≡◌, Bool, true, false, List, [], ◌∷◌, ◌++◌, codes, length, Option, None, Some}
 use Rattle.std.specs.Fmt.{decimal}
 use Rattle.std.specs.List.{flat_map, slice_get}
 use Rattle.tenant_core.specs.Codes.{code_of}
@@ -19,7 +19,8 @@ use Rattle.meters.specs.declared.kind.Kind.TheVariants as kind
 use Rattle.workers.specs.declared.places.PlaceUse.{PlaceUse}
 use Rattle.service.specs.declared.host.metrics.BookFigures.{BookFigures}
 use Rattle.service.specs.declared.host.metrics.Family.{Family}
-use Rattle.service.specs.declared.host.metrics.Family.TheVariants.{Accepts, Open, Waiting, Answers, Packets, Unanswered, LinkFaults, RefusedTokens, PlacesShare, PlacesUsed, PlacesAwaited, Period, Entries, JournalPlaces, OpenHolds, StatementsWaiting}
+use Rattle.service.specs.declared.host.metrics.Family.TheVariants.{Accepts, Open, Waiting, LogLeft, LogWrite, LogSynced, Answers, Packets, Unanswered, LinkFaults, RefusedTokens, PlacesShare, PlacesUsed, PlacesAwaited, Period, Entries, JournalPlaces, OpenHolds, StatementsWaiting}
+use Rattle.service.specs.declared.host.metrics.LogCounts.{LogCounts}
 use Rattle.service.specs.declared.host.metrics.PacketFigures.{PacketFigures}
 use Rattle.service.specs.declared.host.metrics.ServiceCounts.{ServiceCounts}
 use Rattle.service.specs.declared.host.metrics.TenantCounts.{TenantCounts}
@@ -31,6 +32,9 @@ abbrev pub family_name : Family → List ℕ
 family_name Accepts = codes "ilpd_accepts_connections"
 family_name Open = codes "ilpd_connections_open"
 family_name Waiting = codes "ilpd_threads_waiting"
+family_name LogLeft = codes "ilpd_log_left_bytes"
+family_name LogWrite = codes "ilpd_log_write_milliseconds"
+family_name LogSynced = codes "ilpd_log_synced_milliseconds"
 family_name Answers = codes "ilpd_answers_total"
 family_name Packets = codes "ilpd_packets_total"
 family_name Unanswered = codes "ilpd_unanswered_total"
@@ -50,6 +54,9 @@ abbrev pub help_of : Family → List ℕ
 help_of Accepts = codes "Whether connections are accepted: 1 or 0."
 help_of Open = codes "Connections that are open."
 help_of Waiting = codes "Threads that wait for a connection."
+help_of LogLeft = codes "Bytes of the journal's log on disk that are left."
+help_of LogWrite = codes "For how many milliseconds the write of the log has taken that is under way, or 0."
+help_of LogSynced = codes "How many milliseconds ago the log was synced last."
 help_of Answers = codes "Packets and commands that were answered, by the status of the answer."
 help_of Packets = codes "Packets that the tenant decided, by what became of them."
 help_of Unanswered = codes "Packets that went on and got no usable answer, by the cause."
@@ -188,6 +195,11 @@ unfoldable pub service_text : ServiceCounts → List ℕ
 service_text service =
     single_text Accepts (bit service.accepts) ++ single_text Open service.open ++ single_text Waiting service.waiting
 
+-- the metrics of the journal on disk, if one is kept
+abbrev pub log_text : Option LogCounts → List ℕ
+log_text None = []
+log_text (Some log) = single_text LogLeft log.left ++ single_text LogWrite log.write_time ++ single_text LogSynced log.since_sync
+
 -- the metrics of the tenants, by family
 unfoldable pub tenants_text : List TenantCounts → List ℕ
 tenants_text all =
@@ -201,7 +213,7 @@ statements_text true all = each_text StatementsWaiting all
 
 -- the metrics
 abbrev pub metrics_text : ServiceCounts → List TenantCounts → List ℕ
-metrics_text service all = service_text service ++ tenants_text all ++ statements_text service.states all
+metrics_text service all = service_text service ++ log_text service.log ++ tenants_text all ++ statements_text service.states all
 
 -- ---- what was read
 

@@ -1,12 +1,15 @@
 //! What all workers share.
 
-ghost use Rattle.std.specs.Prelude.{◌≡◌, ◌<◌, vec_len, IfOk, IfSome};
+ghost use Rattle.std.specs.Prelude.{◌≡◌, ◌<◌, vec_len, IfSome, OnOk};
+ghost use Rattle.journal_shared.specs.Kept.{IsKeptIn};
+ghost use Rattle.log_folder.specs.Disk.{disk_may_leave, disk_seen};
 ghost use Rattle.service.specs.Served.{tenant_named};
 
 pub mod asked;
 
 use crate::connection::door::Door;
 use crate::filing::Filing;
+use crate::host::metrics::LogCounts;
 use books_shared::Books;
 use common_types::{Name, Token};
 use ilp_addr::Moment;
@@ -17,7 +20,8 @@ use one_list::Run;
 use std::alloc::AllocError;
 use std::sync::Wait;
 use std::sync::atomic::{AtomicU64, Ordering};
-use workers::Places;
+use std::time::Clock;
+use workers::{JournalPlace, Keeping, Places};
 
 /// What a service knows of a tenant beside its book.
 #[derive(Drop)]
@@ -72,21 +76,45 @@ impl<J: Run> Office<J> {
     /// Whether nothing more can be kept on disk: the log is full, or the disk has failed.
     pub fn has_lost_journal(&self) -> bool {
         match &self.journal {
-            Some(journal) => !journal.has_room(),
+            Some(journal) => journal.is_lost(),
             None => false,
         }
     }
 
-    /// That text, once all that it shows is kept. Fails if that can't be kept.
-    pub fn once_kept<'x, H: Wait>(
+    /// Whether what is done now can be kept: the journal, if there is one, is not lost, and the disk does not hang.
+    pub fn can_keep(&self, clock: &impl Clock) -> bool {
+        match &self.journal {
+            Some(journal) => journal.has_room(clock),
+            None => true,
+        }
+    }
+
+    /// What is counted of the journal on disk now, if one is kept.
+    pub fn log_counts(&self, clock: &impl Clock) -> Option<LogCounts> {
+        let journal = self.journal.as_ref()?;
+        Some(LogCounts {
+            left: journal.left(),
+            write_time: journal.write_time(clock),
+            since_sync: journal.since_sync(clock),
+        })
+    }
+
+    /// Waits until all records of a tenant before that place are kept, if a journal on disk is. Fails if it is not known whether they
+    /// are, and at once while the disk hangs.
+    pub fn await_kept<'x, H: Wait + Clock>(
         &'x self,
         handle: &'x H,
-        text: Vec<u8>,
-    ) -> Result<Vec<u8>, AllocError>
-        ensures { IfOk result (λ told. told ≡ text) }
+        place: JournalPlace,
+    ) -> Result<(), AllocError>
+        ensures { OnOk result (IsKeptIn disk_seen disk_may_leave J.openings self.now.journal place) }
     {
-        match self.keeper(handle).settle() {
-            Ok(()) => Ok(text),
+        if let Some(journal) = &self.journal
+            && journal.has_stalled(handle)
+        {
+            return Err(AllocError);
+        }
+        match self.keeper(handle).wait(place) {
+            Ok(()) => Ok(()),
             Err(_) => Err(AllocError),
         }
     }

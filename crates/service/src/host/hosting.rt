@@ -219,7 +219,7 @@ impl<H: Wait + Clock, J: Run> Hosted for Inspected<'_, H, J> {
     }
 
     fn lets_in(&self) -> bool {
-        self.office.door.lets_in() && !self.office.has_lost_journal()
+        self.office.door.lets_in() && self.office.can_keep(self.handle)
     }
 
     fn metrics(&self, seat: &mut MeterSeat) -> Result<Vec<u8>, AllocError> {
@@ -234,13 +234,13 @@ impl<H: Wait + Clock, J: Run> Hosted for Inspected<'_, H, J> {
             open: office.door.open(),
             waiting: office.door.waiting(),
             states: office.filing.is_some(),
+            log: office.log_counts(self.handle),
         };
         metrics_text(self.alloc, service, all.as_slice())
     }
 
     fn present(&self) -> Result<Vec<u8>, AllocError> {
-        let text = present_text(self.handle, self.alloc, self.office)?;
-        self.office.once_kept(self.handle, text)
+        present_text(self.handle, self.alloc, self.office)
     }
 
     fn stop(&self) -> Deserted {
@@ -256,8 +256,7 @@ impl<H: Wait + Clock, J: Run> Hosted for Inspected<'_, H, J> {
     }
 
     fn present_last(&self, _deserted: Deserted) -> Result<Vec<u8>, AllocError> {
-        let text = present_text(self.handle, self.alloc, self.office)?;
-        self.office.once_kept(self.handle, text)
+        present_text(self.handle, self.alloc, self.office)
     }
 }
 

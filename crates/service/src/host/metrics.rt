@@ -6,7 +6,7 @@ ghost use Rattle.atomic_table.specs.Seated.{TableId};
 ghost use Rattle.meters.specs.declared.kind.Kind as meter;
 ghost use Rattle.service.specs.declared.host.metrics.TenantCounts as told;
 ghost use Rattle.service.specs.Metrics.{AreRead, all_outcomes, answers_of, bit, detail_line, detail_name, details_of, details_text, each_text};
-ghost use Rattle.service.specs.Metrics.{family_head, family_line, family_name, figure_of, figures_of, help_of, label_of, metrics_text, number_text};
+ghost use Rattle.service.specs.Metrics.{family_head, family_line, family_name, figure_of, figures_of, help_of, label_of, log_text, metrics_text, number_text};
 ghost use Rattle.service.specs.Metrics.{outcome_word, outcomes_text, packets_of, service_text, single_text, statements_text, tenants_text, type_of, unanswered_of};
 
 use books_shared::{PacketCounts, PacketOutcome};
@@ -57,6 +57,17 @@ pub struct TenantCounts<'a> {
     pub statements: u64,
 }
 
+/// What is counted of the journal on disk, at one moment.
+#[derive(Clone, Copy)]
+pub struct LogCounts {
+    /// How many bytes of its log are left.
+    pub left: u64,
+    /// For how many milliseconds the write that is under way has taken; none if none is.
+    pub write_time: u64,
+    /// How many milliseconds ago the last write was synced.
+    pub since_sync: u64,
+}
+
 /// What is counted of the whole service, at one moment.
 #[derive(Clone, Copy)]
 pub struct ServiceCounts {
@@ -67,6 +78,8 @@ pub struct ServiceCounts {
     pub waiting: u64,
     /// Whether statements of closed periods are kept.
     pub states: bool,
+    /// The journal on disk, if one is kept.
+    pub log: Option<LogCounts>,
 }
 
 /// The source of the present numbers of tenants.
@@ -194,6 +207,10 @@ enum Family {
     Accepts,
     Open,
     Waiting,
+    /// Of the whole service, if it keeps a journal on disk.
+    LogLeft,
+    LogWrite,
+    LogSynced,
     /// Of each tenant, three by the status of the answer.
     Answers,
     /// Of each tenant, sixteen by what became of the packet.
@@ -221,6 +238,9 @@ impl Family {
             Family::Accepts => b"ilpd_accepts_connections",
             Family::Open => b"ilpd_connections_open",
             Family::Waiting => b"ilpd_threads_waiting",
+            Family::LogLeft => b"ilpd_log_left_bytes",
+            Family::LogWrite => b"ilpd_log_write_milliseconds",
+            Family::LogSynced => b"ilpd_log_synced_milliseconds",
             Family::Answers => b"ilpd_answers_total",
             Family::Packets => b"ilpd_packets_total",
             Family::Unanswered => b"ilpd_unanswered_total",
@@ -244,6 +264,10 @@ impl Family {
             Family::Accepts => b"Whether connections are accepted: 1 or 0.",
             Family::Open => b"Connections that are open.",
             Family::Waiting => b"Threads that wait for a connection.",
+            Family::LogLeft => b"Bytes of the journal's log on disk that are left.",
+            Family::LogWrite =>
+                b"For how many milliseconds the write of the log has taken that is under way, or 0.",
+            Family::LogSynced => b"How many milliseconds ago the log was synced last.",
             Family::Answers =>
                 b"Packets and commands that were answered, by the status of the answer.",
             Family::Packets => b"Packets that the tenant decided, by what became of them.",
@@ -309,6 +333,7 @@ impl TenantCounts<'_> {
             Family::OpenHolds => self.book.open_holds,
             Family::StatementsWaiting => self.statements,
             Family::Accepts | Family::Open | Family::Waiting => 0,
+            Family::LogLeft | Family::LogWrite | Family::LogSynced => 0,
             Family::Answers | Family::Packets | Family::Unanswered => 0,
         }
     }
@@ -582,6 +607,18 @@ fn put_service(alloc: Global, text: &mut Vec<u8>, service: ServiceCounts) -> Res
     put_single(alloc, text, Family::Waiting, service.waiting)
 }
 
+// The lines of the journal on disk, if one is kept.
+fn put_log(alloc: Global, text: &mut Vec<u8>, log: Option<LogCounts>) -> Result<(), AllocError>
+    ensures { OnOk result (text.new.items ≡ text.old.items ++ log_text log) }
+{
+    let Some(log) = log else {
+        return Ok(());
+    };
+    put_single(alloc, text, Family::LogLeft, log.left)?;
+    put_single(alloc, text, Family::LogWrite, log.write_time)?;
+    put_single(alloc, text, Family::LogSynced, log.since_sync)
+}
+
 fn bit(holds: bool) -> u64
     ensures { result ≡ bit holds }
 {
@@ -636,6 +673,7 @@ pub fn metrics_text(
 {
     let mut text = Vec::new(alloc);
     put_service(alloc, &mut text, service)?;
+    put_log(alloc, &mut text, service.log)?;
     put_tenants(alloc, &mut text, all)?;
     put_statements(alloc, &mut text, service.states, all)?;
     Ok(text)

@@ -23,7 +23,7 @@ use workers::{Clock, GovernFault, Tools, govern};
 
 // Rolls a tenant, and keeps the period that it closes. A roll that is refused is left to the audit, unless it is out
 // of memory.
-fn roll<'x, J: Run, H: Wait, C: Clock>(
+fn roll<'x, J: Run, H: Wait + std::time::Clock, C: Clock>(
     system: &System<'x, H, C>,
     office: &'x Office<J>,
     meters: &'x Meters,
@@ -66,7 +66,7 @@ fn keep(answer: Result<Answered, GovernFault>, periods: &mut Vec<Period>) -> Res
 }
 
 // Rolls all tenants, one after another, with these meters.
-fn roll_below<'x, J: Run, H: Wait, C: Clock>(
+fn roll_below<'x, J: Run, H: Wait + std::time::Clock, C: Clock>(
     system: &System<'x, H, C>,
     office: &'x Office<J>,
     meters: &'x Meters,
@@ -86,7 +86,7 @@ fn roll_below<'x, J: Run, H: Wait, C: Clock>(
 }
 
 // The same, with meters that nobody reads.
-fn roll_each<J: Run, H: Wait, C: Clock>(
+fn roll_each<J: Run, H: Wait + std::time::Clock, C: Clock>(
     system: &System<'_, H, C>,
     office: &Office<J>,
     share: &mut Share<J>,
@@ -110,7 +110,7 @@ fn roll_each<J: Run, H: Wait, C: Clock>(
 
 /// Closes the running period of each tenant by one of the shares, if `wanted`, and keeps what was closed. Fails only
 /// if it is out of memory.
-pub fn roll_all<J: Run, H: Wait, C: Clock>(
+pub fn roll_all<J: Run, H: Wait + std::time::Clock, C: Clock>(
     system: &System<'_, H, C>,
     wanted: bool,
     office: &Office<J>,

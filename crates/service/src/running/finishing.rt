@@ -102,7 +102,7 @@ fn file_receipts_late<J: Run, H: Disk, C>(
 
 // Closes the periods that the plan closes, writes statements and receipts, and audits receipts. Fails only if it is
 // out of memory.
-fn finished<J: Run, H: Wait + Disk, C: Clock>(
+fn finished<J: Run, H: Wait + std::time::Clock + Disk, C: Clock>(
     system: &System<'_, H, C>,
     plan: Plan<'_>,
     office: &Office<J>,
@@ -130,7 +130,7 @@ fn finished<J: Run, H: Wait + Disk, C: Clock>(
 /// Closes the running periods, if the plan has an audit or statements, by one of the workers. Then writes the
 /// statements that are not written yet, and the receipts, if both are kept. Then audits what the workers did, if the
 /// plan has an audit. The audit uses the periods that were closed before, if there was memory to put them together.
-pub fn finish<J: Run, H: Wait + Disk, C: Clock>(
+pub fn finish<J: Run, H: Wait + std::time::Clock + Disk, C: Clock>(
     system: &System<'_, H, C>,
     plan: Plan<'_>,
     office: &Office<J>,

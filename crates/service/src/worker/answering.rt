@@ -1,7 +1,8 @@
 //! The answers of a worker to a packet and to a command.
 
-ghost use Rattle.std.specs.Prelude.{◌≡◌, ◌≢◌, ◌<◌, Ok, Err, IfErr, OnErr, is_some, true};
+ghost use Rattle.std.specs.Prelude.{◌≡◌, ◌≢◌, ◌<◌, ◌&&◌, Ok, Err, IfErr, IfOk, OnErr, is_some, true};
 ghost use Rattle.admin_text.specs.Commands.{command_in};
+ghost use Rattle.service.specs.Filing.{is_roll};
 ghost use Rattle.service.specs.Answering.{IsPrinted, IsCommandAnswer, WasCarried, WasGoverned, WasObeyed, command_line, obeyed_status};
 ghost use Rattle.service.specs.Rolling.{IsTidied, IsUntouched, WasRolledRipe};
 
@@ -110,7 +111,7 @@ impl<J: Run> Desk<J> {
 
     /// Does the command in a body, if it is one, for a tenant of the office, and returns the status of the answer. The error is
     /// what is wrong with a body that is not a command.
-    pub fn obey<'x, H: Wait, C: Clock>(
+    pub fn obey<'x, H: Wait + std::time::Clock, C: Clock>(
         &mut self,
         system: &System<'x, H, C>,
         office: &'x Office<J>,
@@ -144,7 +145,7 @@ impl<J: Run> Desk<J> {
 
     /// Closes the running period of a tenant of the office if it is ripe and the service closes ripe ones, and hands it to the one
     /// who writes statements where they are kept. A period stays open while too many statements of the tenant wait.
-    pub fn tidy<'x, H: Wait, C: Clock>(
+    pub fn tidy<'x, H: Wait + std::time::Clock, C: Clock>(
         &mut self,
         system: &System<'x, H, C>,
         office: &'x Office<J>,
@@ -171,7 +172,7 @@ impl<J: Run> Desk<J> {
     }
 
     // Closes the period of a tenant of the office if it is ripe, and gives it.
-    fn roll<'x, H: Wait, C: Clock>(
+    fn roll<'x, H: Wait + std::time::Clock, C: Clock>(
         &mut self,
         system: &System<'x, H, C>,
         office: &'x Office<J>,
@@ -199,7 +200,7 @@ impl<J: Run> Desk<J> {
     }
 
     // Governs a tenant of the office, keeps what is printed of the answer, and gives the status, and the period that was closed.
-    fn govern<'x, H: Wait, C: Clock>(
+    fn govern<'x, H: Wait + std::time::Clock, C: Clock>(
         &mut self,
         system: &System<'x, H, C>,
         office: &'x Office<J>,
@@ -235,7 +236,8 @@ fn backlog_room<'a, H: Wait, J: Run>(
     tenant: usize,
     command: &Command,
 ) -> Result<Option<BacklogRoom<'a>>, AllocError>
-    ensures { OnErr result (is_some office.now.filing ≡ true) }
+    ensures kept { OnErr result (is_some office.now.filing ≡ true) }
+    ensures exact { IfOk result (λ room. is_some room ≡ (is_some office.now.filing && is_roll command.now)) }
 {
     match (&office.filing, command) {
         (Some(filing), Command::Roll) => Ok(Some(filing.backlog.make_room(handle, tenant)?)),

@@ -8,7 +8,7 @@ use Rattle.service.proofs.host.hosting.InspectedHosted.metrics.Goals as goal
 pub returns-clause-told : goal.returns-clause-told
 returns-clause-told g c =
     let all : List TenantCounts = c.in_ok-all.all.items in
-    let service : ServiceCounts = record { accepts = c.lets_in.result; «open» = c.«open».result; waiting = c.waiting.result; states = c.is_some.result } in
+    let service : ServiceCounts = record { accepts = c.lets_in.result; «open» = c.«open».result; waiting = c.waiting.result; states = c.is_some.result; log = c.log_counts.result } in
     let names : List (List ℕ) = c.args.self.now.office.now.names.items in
     let many : length all ≡ length names = search rules in
     let each : (tenant : ℕ) (counts : TenantCounts) → slice_get all tenant ≡ Some counts
