@@ -168,8 +168,8 @@ module _ {V : Type 0} (items : V → List ℕ) (P M : ℕ → List ℕ → Type 
 
 module _ {J : Type 0} {r : Ghosts J} (openings : List Opening) (Gives : ℕ → Type 0) (office : Office J r) (words : List ℕ) where
   same_told : (tenant : ℕ) (topic : Topic) (text : List ℕ)
-      → IsTold (IsHiddenSetup openings office) (λ tenant. IsTenantMetrics openings (is_some office.filing) tenant (slice_get office.names.items tenant))
-      (IsExplained openings Gives) (question_in words) tenant topic text
+      → IsTold (IsHiddenSetup openings office) (IsTenantMetrics openings office)
+      (IsExplained openings Gives office) (question_in words) tenant topic text
       → IsToldOperator openings Gives office tenant words topic text
   same_told tenant Setup text told = told
   same_told tenant Metrics text told = told
@@ -185,10 +185,10 @@ pub operator_answered : {J V : Type 0} {r : Ghosts J} (openings : List Opening) 
     → bytes_eq (operator_token office tenant) wanted.token ≡ true → OrMemory (λ v. IsHiddenSetup openings office tenant (items v)) result)
     → ((tenant : ℕ) → tenant_named office.names.items wanted.tenant ≡ Some tenant → topic ≡ Metrics
     → bytes_eq (operator_token office tenant) wanted.token ≡ true
-    → OrMemory (λ v. IsTenantMetrics openings (is_some office.filing) tenant (slice_get office.names.items tenant) (items v)) result)
+    → OrMemory (λ v. IsTenantMetrics openings office tenant (items v)) result)
     → ((tenant : ℕ) → tenant_named office.names.items wanted.tenant ≡ Some tenant → topic ≡ Explain
     → bytes_eq (operator_token office tenant) wanted.token ≡ true
-    → Explains (question_in wanted.words) (λ question v. IsExplained openings Gives tenant question (items v)) result)
+    → Explains (question_in wanted.words) (λ question v. IsExplained openings Gives office tenant question (items v)) result)
     → ((tenant : ℕ) → tenant_named office.names.items wanted.tenant ≡ Some tenant → topic ≡ Statement
     → bytes_eq (operator_token office tenant) wanted.token ≡ true
     → States (number_in 0 (2 ^ 64 - 1) wanted.words) (λ period v. Unit {0}) result)
@@ -196,10 +196,10 @@ pub operator_answered : {J V : Type 0} {r : Ghosts J} (openings : List Opening) 
     → (body : List ℕ) → HasToldOperator openings Gives office topic (operator_asking wanted body status) text
 operator_answered openings Gives office wanted topic items result status text unknown refused setup metrics explain statement kept body =
     let named = tenant_named office.names.items wanted.tenant in
-    let h : HasTold (IsHiddenSetup openings office) (λ tenant. IsTenantMetrics openings (is_some office.filing) tenant (slice_get office.names.items tenant))
-    (IsExplained openings Gives) (question_in wanted.words) named (λ tenant. bytes_eq (operator_token office tenant) wanted.token) topic status text
-    = answered items (IsHiddenSetup openings office) (λ tenant. IsTenantMetrics openings (is_some office.filing) tenant (slice_get office.names.items tenant))
-    (IsExplained openings Gives) (λ tenant. bytes_eq (operator_token office tenant) wanted.token) named status text (question_in wanted.words)
+    let h : HasTold (IsHiddenSetup openings office) (IsTenantMetrics openings office)
+    (IsExplained openings Gives office) (question_in wanted.words) named (λ tenant. bytes_eq (operator_token office tenant) wanted.token) topic status text
+    = answered items (IsHiddenSetup openings office) (IsTenantMetrics openings office)
+    (IsExplained openings Gives office) (λ tenant. bytes_eq (operator_token office tenant) wanted.token) named status text (question_in wanted.words)
     (number_in 0 (2 ^ 64 - 1) wanted.words) topic result unknown refused setup metrics explain statement kept in
     record {
       refused = h.refused;
@@ -208,3 +208,9 @@ operator_answered openings Gives office wanted topic items result status text un
       told = λ good. let known = h.told good in (known.0, known.1, known.2, same_told openings Gives office wanted.words known.0 topic text known.3);
       why = h.why;
     }
+
+-- a statement that is given, whatever its text
+pub stated : {V : Type 0} (n : Result ℕ NumberFault) (P : ℕ → V → Type 0) (result : Result V Unanswered) → States n P result → States n (λ period v. Unit {0}) result
+stated (Ok period) P (Ok v) told = tt
+stated (Ok period) P (Err fault) told = told
+stated (Err fault) P result told = told

@@ -22,6 +22,7 @@ use Rattle.service.specs.Answering.{HasAnswered, IsNewDesk, command_line, operat
 use Rattle.service.specs.Explaining.{explanation}
 use Rattle.service.specs.Hidden.{hidden_text}
 use Rattle.service.specs.Hosting.{Repeats}
+use Rattle.service.specs.Journal.{IsKeptOf}
 use Rattle.service.specs.Metrics.{ArePacketsOf, IsBookOf, statements_text, tenants_text}
 use Rattle.service.specs.PeerMetrics.{IsPeersText}
 use Rattle.service.specs.Presence.{IsTenantText}
@@ -81,29 +82,32 @@ IsHiddenSetup openings office tenant text = (whole : List ℕ) × IsTenantText o
 
 -- the metrics of one tenant, by its own book and packets: its rows of the host's metrics, also those of statements if some are
 -- kept, and those of its peers
-abbrev pub IsTenantMetrics : List Opening → (states : Bool) → (tenant : ℕ) → (name : Option (List ℕ)) → List ℕ → Type 0
-IsTenantMetrics openings states tenant name text =
-    (counts : TenantCounts) × (name ≡ Some counts.name.now) × IsBookOf tenant counts.book × ArePacketsOf openings tenant counts.packets
-    × (peers : List ℕ) × IsPeersText openings tenant counts.name.now peers
-    × (text ≡ (tenants_text (counts ∷ []) ++ statements_text states (counts ∷ [])) ++ peers)
+abbrev pub IsTenantMetrics : {J : Type 0} {r : Ghosts J} → List Opening → Office J r → (tenant : ℕ) → List ℕ → Type 0
+IsTenantMetrics openings office tenant text =
+    (counts : TenantCounts) × (slice_get office.names.items tenant ≡ Some counts.name.now) × IsBookOf tenant counts.book × ArePacketsOf openings tenant counts.packets
+    × (peers : List ℕ) × IsPeersText openings office tenant counts.name.now peers
+    × (text ≡ (tenants_text (counts ∷ []) ++ statements_text (is_some office.filing) (counts ∷ [])) ++ peers)
 
--- the explanation of a packet by the tenant's book as it was at some moment, and by a moment that the clock gave
-pub record IsExplained (openings : List Opening) (Gives : ℕ → Type 0) (tenant : ℕ) (question : Question) (text : List ℕ) : Type 0 where
+-- the explanation of a packet by the tenant's book as it was at some moment, all records of which are kept, and by a moment that the
+-- clock gave
+pub record IsExplained {J : Type 0} {r : Ghosts J} (openings : List Opening) (Gives : ℕ → Type 0) (office : Office J r) (tenant : ℕ) (question : Question)
+    (text : List ℕ) : Type 0 where
   pub book : State
   pub steps : List Done
   pub own : book.opening.tenant ≡ tenant
   pub led : IsLedTo openings book steps
   pub now : ℕ
   pub given : Gives now
+  pub kept : IsKeptOf openings office book
   pub told : text ≡ explanation book question now
 
 -- the text of a 200 about a tenant
 abbrev pub IsToldOperator : {J : Type 0} {r : Ghosts J} → List Opening → (ℕ → Type 0) → Office J r → ℕ → List ℕ → Topic → List ℕ → Type 0
 IsToldOperator openings Gives office tenant words Setup text = IsHiddenSetup openings office tenant text
-IsToldOperator openings Gives office tenant words Metrics text = IsTenantMetrics openings (is_some office.filing) tenant (slice_get office.names.items tenant) text
+IsToldOperator openings Gives office tenant words Metrics text = IsTenantMetrics openings office tenant text
 IsToldOperator openings Gives office tenant words Statement text = Unit {0}
 IsToldOperator openings Gives office tenant words Explain text =
-    (question : Question) × (question_in words ≡ Ok question) × IsExplained openings Gives tenant question text
+    (question : Question) × (question_in words ≡ Ok question) × IsExplained openings Gives office tenant question text
 
 -- A request is refused with 401 exactly if its name is a tenant's and its token not that tenant's. An unknown name is refused with
 -- 404. So is a request for a statement that is not there, and no other. The text of a 200 is about the tenant of that name, whose

@@ -9,8 +9,11 @@ use Rattle.tenant_core.specs.declared.opening.Opening.{Opening}
 use Rattle.books_shared.specs.PeerOutcomes.{peer_count}
 use Rattle.books_shared.specs.Traced.{IsLedTo}
 use Rattle.books_shared.specs.declared.outcomes.PacketOutcome.{PacketOutcome}
+use Rattle.one_list.specs.declared.run.Run.{Ghosts}
 use Rattle.one_list.specs.declared.step.Done.{Done}
+use Rattle.service.specs.Journal.{IsKeptOf}
 use Rattle.service.specs.Metrics.{all_outcomes, number_text, outcome_word}
+use Rattle.service.specs.declared.office.Office.{Office}
 
 -- the lines before the numbers
 abbrev pub peers_head : List ℕ
@@ -57,10 +60,11 @@ IsPeersOf tenant s text =
 abbrev pub HasPeers : (tenant : List ℕ) → State → (old new : List ℕ) → Type 0
 HasPeers tenant s old new = (more : List ℕ) × IsPeersOf tenant s more × (new ≡ old ++ more)
 
--- the lines of the tenant's book as it was at some moment
-pub record IsPeersText (openings : List Opening) (tenant : ℕ) (name : List ℕ) (text : List ℕ) : Type 0 where
+-- the lines of the tenant's book as it was at some moment, all records of which are kept
+pub record IsPeersText {J : Type 0} {r : Ghosts J} (openings : List Opening) (office : Office J r) (tenant : ℕ) (name : List ℕ) (text : List ℕ) : Type 0 where
   pub book : State
   pub steps : List Done
   pub own : book.opening.tenant ≡ tenant
   pub led : IsLedTo openings book steps
+  pub kept : IsKeptOf openings office book
   pub told : IsPeersOf name book text

@@ -11,15 +11,17 @@ use Rattle.tenant_core.specs.State.{State}
 use Rattle.tenant_core.specs.declared.opening.Opening.{Opening}
 use Rattle.tenant_core.specs.declared.terms.TenantTerms.{TenantTerms}
 use Rattle.service.specs.Answering.{operator_token}
+use Rattle.service.specs.Journal.{IsKeptOf}
 use Rattle.service.specs.declared.office.Office.{Office}
 
 -- The setup of a tenant as its book was at some moment, with the token of its operator. All that was done to the book
--- until then leads to it from the opening that the service's setup gives.
+-- until then leads to it from the opening that the service's setup gives, and is kept.
 pub record IsPresent {J : Type 0} {r : Ghosts J} (openings : List Opening) (office : Office J r) (tenant : ℕ) (setup : TenantTerms) : Type 0 where
   pub book : State
   pub steps : List Done
   pub own : book.opening.tenant ≡ tenant
   pub led : IsLedTo openings book steps
+  pub kept : IsKeptOf openings office book
   pub told : setup ≡ present_setup book (operator_token office tenant)
 
 -- the setups of all tenants, in their order, each as its book was at some moment

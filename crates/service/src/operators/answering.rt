@@ -6,6 +6,7 @@ ghost use Rattle.http_link.specs.OperatorDoor.{operator_asking, operator_wanted_
 ghost use Rattle.http_link.specs.declared.request.RequestKind.TheVariants.{Admin};
 ghost use Rattle.service.specs.Explaining.{explanation, finding_asked};
 ghost use Rattle.service.specs.Questions.{question_at};
+ghost use Rattle.service.specs.Filing.{IsStatementRead};
 ghost use Rattle.service.specs.Operating.{HasOperated, HasToldOperator, IsCommanded, IsExplained, IsHiddenSetup, IsKept, IsOperated, IsTenantMetrics};
 ghost use Rattle.service.specs.Operating.{command_fault_line, operator_refusal, told_at};
 ghost use Rattle.service.specs.Answering.{WasAskedCommand, command_line, obeyed_status, operator_token};
@@ -44,7 +45,7 @@ use std::net::{Net, TcpListener, TcpStream};
 use std::sync::Wait;
 use std::time::Duration;
 use tenant_core::{Book, Finding};
-use workers::{Clock, Status};
+use workers::{Clock, Status, place_after};
 
 /// Where operators ask.
 #[derive(Drop)]
@@ -170,13 +171,12 @@ fn explained_by(
     explained(alloc, question, &finding, next)
 }
 
-impl<H: Wait, C: Clock, J: Run> Consulted<'_, H, C, J> {
-    // The numbers of a tenant, of its packets and of those of each of its peers.
+impl<H: Wait + std::time::Clock, C: Clock, J: Run> Consulted<'_, H, C, J> {
+    // The numbers of a tenant, of its packets and of those of each of its peers, once what led to the latter is kept.
     fn measured(&self, seat: &mut MeterSeat, tenant: usize) -> Result<Vec<u8>, AllocError>
         requires seat { seat.old.meters ≡ self.now.office.now.meters.id }
         requires tenant { tenant < self.now.office.now.books.tenants }
-        ensures told { IfOk result (λ text. IsTenantMetrics J.openings (is_some self.now.office.now.filing) tenant
-            (slice_get self.now.office.now.names.items tenant) text.items) }
+        ensures told { IfOk result (λ text. IsTenantMetrics J.openings self.now.office.now tenant text.items) }
         ensures same { seat.new ≡ seat.old }
     {
         let office = self.office;
@@ -188,21 +188,28 @@ impl<H: Wait, C: Clock, J: Run> Consulted<'_, H, C, J> {
         let mut text = tenant_metrics_text(self.alloc, office.filing.is_some(), counts)?;
         let guard = office.books.enter(self.handle, tenant);
         put_peers(self.alloc, &mut text, &office.names[tenant], guard.book())?;
+        let place = place_after(guard.book());
+        drop(guard);
+        office.await_kept(self.handle, place)?;
         Ok(text)
     }
 
-    // What the tenant's book would decide on a packet now.
+    // What the tenant's book would decide on a packet now, once what led to that is kept.
     fn explained(&self, tenant: usize, question: &Question<'_>) -> Result<Vec<u8>, AllocError>
         requires { tenant < self.now.office.now.books.tenants }
-        ensures { IfOk result (λ text. IsExplained J.openings (C.gives self.now.clock.now) tenant (question_at question.now) text.items) }
+        ensures { IfOk result (λ text. IsExplained J.openings (C.gives self.now.clock.now) self.now.office.now tenant (question_at question.now) text.items) }
     {
         let now = self.clock.now();
         let guard = self.office.books.enter(self.handle, tenant);
-        explained_by(self.alloc, guard.book(), question, now)
+        let text = explained_by(self.alloc, guard.book(), question, now)?;
+        let place = place_after(guard.book());
+        drop(guard);
+        self.office.await_kept(self.handle, place)?;
+        Ok(text)
     }
 }
 
-impl<H: Wait + Disk, C: Clock, J: Run> Operated for Consulted<'_, H, C, J> {
+impl<H: Wait + std::time::Clock + Disk, C: Clock, J: Run> Operated for Consulted<'_, H, C, J> {
     ghost tenants = { λ s. s.office.now.books.tenants };
 
     ghost numbered = { λ s name. tenant_named s.office.now.names.items name };
@@ -211,12 +218,11 @@ impl<H: Wait + Disk, C: Clock, J: Run> Operated for Consulted<'_, H, C, J> {
 
     ghost presents = { λ s tenant text. IsHiddenSetup J.openings s.office.now tenant text };
 
-    ghost measures = { λ s tenant text. IsTenantMetrics J.openings (is_some s.office.now.filing) tenant (slice_get s.office.now.names.items tenant) text };
+    ghost measures = { λ s tenant text. IsTenantMetrics J.openings s.office.now tenant text };
 
-    ghost explains = { λ s tenant question text. IsExplained J.openings (C.gives s.clock.now) tenant question text };
+    ghost explains = { λ s tenant question text. IsExplained J.openings (C.gives s.clock.now) s.office.now tenant question text };
 
-    // Nothing is known of the bytes of a file.
-    ghost states = { λ _ _ _ _. Unit {0} };
+    ghost states = { λ s tenant period text. IsStatementRead (H.reads s.handle.now) s.office.now tenant period text };
 
     ghost read = { λ s. s.office.now.meters.id };
 
@@ -230,24 +236,26 @@ impl<H: Wait + Disk, C: Clock, J: Run> Operated for Consulted<'_, H, C, J> {
 
     fn present(&self, tenant: usize) -> Result<Vec<u8>, AllocError> {
         let text = tenant_text(self.handle, self.alloc, self.office, tenant)?;
-        let text = hidden_text(self.alloc, text.as_slice())?;
-        self.office.once_kept(self.handle, text)
+        hidden_text(self.alloc, text.as_slice())
     }
 
     fn metrics(&self, seat: &mut MeterSeat, tenant: usize) -> Result<Vec<u8>, AllocError> {
-        let text = self.measured(seat, tenant)?;
-        self.office.once_kept(self.handle, text)
+        self.measured(seat, tenant)
     }
 
     fn explain(&self, tenant: usize, question: &Question<'_>) -> Result<Vec<u8>, AllocError> {
-        let text = self.explained(tenant, question)?;
-        self.office.once_kept(self.handle, text)
+        self.explained(tenant, question)
     }
 
     fn statement(&self, tenant: usize, period: u64) -> Option<Vec<u8>> {
-        let filing = self.office.filing.as_ref()?;
+        let Some(filing) = &self.office.filing else {
+            return None;
+        };
         let folder = Folder::new(self.handle, self.alloc, filing.folder.as_str());
-        folder.statement(&self.office.names[tenant], period).ok()
+        match folder.statement(&self.office.names[tenant], period) {
+            Ok(text) => Some(text),
+            Err(_) => None,
+        }
     }
 }
 
@@ -266,7 +274,7 @@ fn command_fault_line(fault: TextFault) -> &'static [u8]
     }
 }
 
-impl<H: Wait + Disk, C: Clock, J: Run> Operators<'_, H, C, J> {
+impl<H: Wait + std::time::Clock + Disk, C: Clock, J: Run> Operators<'_, H, C, J> {
     // Keeps the text of the answer to a question, and returns the status.
     fn answer(&mut self, wanted: &OperatorWanted<'_>, topic: Topic) -> u16
         ensures told { (body : List ℕ) → HasToldOperator J.openings (C.gives self.old.clock.now) self.old.office.now topic
@@ -369,7 +377,8 @@ impl<H, C, J: Run> OperatorList for Operators<'_, H, C, J> {
     }
 }
 
-impl<H: Wait + Disk, C: Clock, J: Run> OperatorService for Operators<'_, H, C, J> {
+impl<H: Wait + std::time::Clock + Disk, C: Clock, J: Run> OperatorService
+    for Operators<'_, H, C, J> {
     ghost refusal = { λ o wanted. operator_refusal o.office.now wanted };
 
     ghost asks = { λ before asked after. (after.office ≡ before.office) × (after.clock ≡ before.clock)
