@@ -1,10 +1,16 @@
 -- The statements of closed periods: which must be kept, and the lines for those that are not.
-use Rattle.std.specs.Prelude.{ℕ, ◌*◌, ◌≡◌, ◌≢◌, ◌⊎◌, min, max, Bool, true, false, List, [], ◌∷◌, ◌++◌, codes}
+use Rattle.std.specs.Prelude.{ℕ, ◌*◌, ◌≡◌, ◌≢◌, ◌⊎◌, min, max, Bool, true, false, List, [], ◌∷◌, ◌++◌, codes, string_bytes, Some}
 use Rattle.std.specs.Fmt.{decimal}
+use Rattle.std.specs.List.{slice_get}
+use Rattle.one_list.specs.declared.run.Run.{Ghosts}
+use Rattle.tenant_core.specs.declared.command.Command.{Command}
+use Rattle.tenant_core.specs.declared.command.Command.TheVariants.{Roll}
 use Rattle.tenant_core.specs.declared.period.PeriodParts.{PeriodParts}
 use Rattle.statements.specs.Statement.{IsStatement}
+use Rattle.service.specs.declared.filing.Filing.{Filing}
 use Rattle.service.specs.declared.filing.Found.{Found}
 use Rattle.service.specs.declared.filing.Found.TheVariants.{Nothing, Same, Other, Unknown}
+use Rattle.service.specs.declared.office.Office.{Office}
 
 -- a statement to keep: whose, of which period, and its text
 pub record StatementToKeep : Type 0 where
@@ -78,3 +84,27 @@ AreFiled {S} Tells Keeps (p ∷ ps) before after lines =
 -- for how many milliseconds nothing is tried after tries that failed and took so many
 abbrev pub pause_after : ℕ → ℕ
 pause_after spent = max (min spent 2_000 * 4) 500
+
+-- whether a command may close a period
+abbrev pub is_roll : Command → Bool
+is_roll Roll = true
+is_roll _ = false
+
+-- ---- files
+
+-- the name of the file of a tenant's statement
+abbrev pub statement_file : (name : List ℕ) → (period : ℕ) → List ℕ
+statement_file name period = name ++ codes "." ++ decimal period ++ codes ".statement"
+
+-- the path of a file in a folder
+abbrev pub path_in : (folder file : List ℕ) → List ℕ
+path_in folder file = folder ++ codes "/" ++ file
+
+-- that was told of the file of the statement of that period of that tenant, in the folder of the service's statements
+pub record IsStatementRead {J : Type 0} {r : Ghosts J} (Reads : (path bytes : List ℕ) → Type 0) (office : Office J r) (tenant period : ℕ) (text : List ℕ)
+    : Type 0 where
+  pub filing : Filing
+  pub kept : office.filing ≡ Some filing
+  pub name : List ℕ
+  pub named : slice_get office.names.items tenant ≡ Some name
+  pub read : Reads (path_in (string_bytes filing.folder) (statement_file name period)) text

@@ -8,6 +8,11 @@ use std::{fs, io};
 
 /// A file system. Threads may share it, of which a bound on its files would say too little.
 pub trait Disk {
+    ghost use Rattle.std.specs.Prelude.{IfOk, List, ℕ};
+
+    /// That it told these bytes of the file at a path.
+    ghost reads: { Self → List ℕ → List ℕ → Type 0 };
+
     /// Whether there is a file at that path.
     fn has(&self, path: &str) -> io::Result<bool>;
 
@@ -15,7 +20,8 @@ pub trait Disk {
     fn names(&self, alloc: Global, folder: &str) -> io::Result<Vec<u8>>;
 
     /// The bytes of the file at that path. A symbolic link is not followed: it is an error.
-    fn read_file(&self, alloc: Global, path: &str) -> io::Result<Vec<u8>>;
+    fn read_file(&self, alloc: Global, path: &str) -> io::Result<Vec<u8>>
+        ensures { IfOk result (λ text. reads self.now path.now text.items) };
 
     /// Writes a text to a new file at that path, which only its owner may read, and on to the disk. A file that was
     /// left there before is removed.
@@ -40,6 +46,9 @@ fn remove_if_there(files: &impl Files, path: &str) -> io::Result<()> {
 }
 
 impl<R: Files> Disk for R {
+    // The system's calls have no clause that says what a file has.
+    ghost reads = { λ _ _ _. Unit {0} };
+
     fn has(&self, path: &str) -> io::Result<bool> {
         fs::exists(self, path)
     }

@@ -1,5 +1,8 @@
 //! A folder of statements, and of receipts.
 
+ghost use Rattle.std.specs.Prelude.{◌≡◌, ◌++◌, IfOk, string_bytes};
+ghost use Rattle.service.specs.Filing.{path_in, statement_file};
+
 use crate::filing::disk::Disk;
 use crate::filing::receipt_store::ReceiptStore;
 use crate::filing::{Found, StatementStore};
@@ -24,14 +27,19 @@ pub struct Folder<'a, D> {
 
 impl<'a, D> Folder<'a, D> {
     /// The folder of that path.
-    pub fn new(disk: &'a D, alloc: Global, path: &'a str) -> Folder<'a, D> {
+    pub fn new(disk: &'a D, alloc: Global, path: &'a str) -> Folder<'a, D>
+        ensures disk { result.disk.now ≡ disk.now }
+        ensures path { result.path.now ≡ path.now }
+    {
         Folder { disk, alloc, path }
     }
 }
 
 impl<D: Disk> Folder<'_, D> {
     // The path of a file, with that ending.
-    fn path_of(&self, file: &[u8], ending: &[u8]) -> io::Result<String> {
+    fn path_of(&self, file: &[u8], ending: &[u8]) -> io::Result<String>
+        ensures { IfOk result (λ path. string_bytes path ≡ path_in self.now.path.now (file.now ++ ending.now)) }
+    {
         let mut path = Vec::new(self.alloc);
         path.extend_from_slice(self.path.as_bytes())?;
         path.push(b'/')?;
@@ -41,7 +49,9 @@ impl<D: Disk> Folder<'_, D> {
     }
 
     // The name of the file of a statement.
-    fn file_of(&self, name: &Name, period: u64) -> io::Result<Vec<u8>> {
+    fn file_of(&self, name: &Name, period: u64) -> io::Result<Vec<u8>>
+        ensures { IfOk result (λ file. file.items ≡ statement_file name.now period) }
+    {
         let number = period.to_string(self.alloc)?;
         let mut file = Vec::new(self.alloc);
         file.extend_from_slice(name.as_bytes())?;
@@ -73,7 +83,9 @@ impl<D: Disk> Folder<'_, D> {
     }
 
     /// The bytes of the file of a statement.
-    pub fn statement(&self, name: &Name, period: u64) -> io::Result<Vec<u8>> {
+    pub fn statement(&self, name: &Name, period: u64) -> io::Result<Vec<u8>>
+        ensures { IfOk result (λ text. D.reads self.now.disk.now (path_in self.now.path.now (statement_file name.now period)) text.items) }
+    {
         let file = self.file_of(name, period)?;
         let path = self.path_of(file.as_slice(), b"")?;
         self.disk.read_file(self.alloc, path.as_str())
