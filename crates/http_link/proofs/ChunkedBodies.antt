@@ -2,9 +2,9 @@
 use Rattle.std.proofs.Common.{◌≡◌, ◌≢◌, inl, inr, ℕ, ◌+◌, ◌-◌, ◌<◌, ◌≤◌, Bool, true, false, List, [], ◌∷◌, ◌++◌, length, take, drop, All, refl, sym, ap, subst, ◌∙◌, arith, append_assoc, append-nil, length-append, length-take, length-drop, take-take, take_all, Option, Result, Ok, Err, IfOk}
 use lib.Seq.{paste}
 use Rattle.std.specs.List.{flat_map}
-use Rattle.std.proofs.KnownBytes.{Consumes-trans}
+use Rattle.std.proofs.KnownBytes.{Consumes-nil, Consumes-trans}
 use Rattle.std.proofs.lemmas.Grind.{flat_map-append}
-use Rattle.std.proofs.lemmas.List.{drop-drop, drop-take}
+use Rattle.std.proofs.lemmas.List.{drop-drop, drop-take, take-append-drop}
 use Rattle.std.proofs.lemmas.List.Edits.{drop-paste, take-paste}
 use Rattle.std.proofs.lemmas.List.Elements.{All-nil, All-push}
 use Rattle.std.proofs.Math.Seq.{drop-append_seam, take-append_seam}
@@ -16,7 +16,7 @@ use Rattle.httparse.proofs.ChunkLemmas.{ReadsChunkLine-append, chunk_line_unique
 use Rattle.httparse.proofs.GrammarLemmas.{ReadsSection-append}
 use Rattle.http_link.specs.Limits.{max_chunk_line, max_head}
 use Rattle.http_link.specs.Bodies.{BeginsChunk, BeginsNothing, BeginsTrailers, BeginsWrong, Body, Chunk, EndsBody, EndsFirst, IsChunk, IsChunked, IsCutShort, IsMalformed, IsSizeLine, IsTrailerText, NoneEnds, bad, contents, cut, ends_line, ends_section, print_chunk}
-use Rattle.http_link.specs.BodyReading.{LiesBehind, Takes, TakesEveryByte, Makes, MakesAll, IsSizeOf, ReadsAs, ReadsAtMost, TakesChunk, TakesLast, TakesStep, TakesBytes, body_read}
+use Rattle.http_link.specs.BodyReading.{LiesBehind, Takes, TakesEveryByte, Makes, MakesAll, IsSizeOf, ReadsAs, ReadsAtMost, TakesChunk, TakesEnd, TakesLast, TakesStep, TakesBytes, body_read, step_after}
 use Rattle.http_link.specs.Running.{held_in}
 use Rattle.http_link.specs.Streams.{FillsOn}
 use Rattle.http_link.specs.declared.held.Held.{Held}
@@ -24,10 +24,12 @@ use Rattle.http_link.specs.declared.bodies.BodyFault.{BodyFault}
 use Rattle.http_link.specs.declared.bodies.BodyFault.TheVariants.{Malformed, TooLarge}
 use Rattle.http_link.specs.declared.bodies.BodyRead.{BodyRead}
 use Rattle.http_link.specs.declared.bodies.BodyRead.TheVariants.{Whole, Cut, Bad}
+use Rattle.http_link.specs.declared.chunks.Checked.{Checked}
+use Rattle.http_link.specs.declared.chunks.Checked.TheVariants.{Right, Wrong, Short}
 use Rattle.http_link.specs.declared.chunks.Step.{Step}
 use Rattle.http_link.specs.declared.chunks.Step.TheVariants.{More, Over}
 use Rattle.http_link.specs.declared.streams.LinkFault.{LinkFault}
-use Rattle.http_link.proofs.Takes.{none_held, takes_none, takes_then}
+use Rattle.http_link.proofs.Takes.{none_held, takes_all_then, takes_none, takes_then}
 
 -- ---- lines
 
@@ -115,6 +117,20 @@ filled_behind old new before moved out had done k wanted there put few fills =
     fills.grew ∙ ap (λ (w : List ℕ). w ++ fills.came) (put ∙ ap (λ (w : List ℕ). take done before ++ w) (take_all k had few))
     ∙ append_assoc (take done before) had fills.came
 
+-- a chunk's bytes were all held
+pub bytes_held : (known : Option (List ℕ)) (before after had has : List ℕ) (done size k : ℕ) → k ≡ size → size ≤ length had → take (done + k) after ≡ take done before ++ take k had
+    → has ≡ drop k had → TakesBytes had known known has size done before after true
+bytes_held known before after had has done size k all enough put left = (
+  take k had,
+  omega (arith, all, length-take k had),
+  subst (λ m. take (done + m) after ≡ take done before ++ take k had) all put,
+  record {
+    came = [];
+    parts = append-nil had ∙ sym (take-append-drop k had) ∙ ap (λ (w : List ℕ). take k had ++ w) (sym left);
+    consumed = Consumes-nil known;
+  },
+)
+
 -- a chunk's bytes are whole
 pub bytes_whole : (old new : Option (List ℕ)) (before moved out : List ℕ) (h now : Held) (done k size there : ℕ) → take (done + k) moved ≡ take done before ++ take k (held_in before h)
     → length (held_in before h) ≤ k → done ≤ length before → (fills : FillsOn old new (take (done + k) moved) (done + size) out there) → done + size ≤ there → there ≤ done + size
@@ -178,6 +194,25 @@ chunk_unended had old mid new bytes two between has size long short other one th
       so = (omega (arith, length-append bytes (two ++ has), length-append two has), λ is. other (sym ending ∙ is));
     }
 
+-- the bytes of a chunk were taken, and then what follows them
+pub chunk_taken : (checked : Checked) (had : List ℕ) (old mid new : Option (List ℕ)) (between has before middle after : List ℕ) (size done now then : ℕ) → now ≡ done + size → then ≡ now
+    → TakesBytes had old mid between size done before middle true → take now after ≡ take now middle → TakesEnd between mid new has checked
+    → TakesChunk had old new has size done then before after (step_after checked)
+chunk_taken Right had old mid new between has before middle after size done now then is same (bytes, long, put, takes) kept ending = (
+  same ∙ is,
+  (
+    bytes,
+    long,
+    subst (λ m. take m after ≡ take m middle) is kept ∙ put,
+    takes_then had old mid new bytes crlf_bytes between has takes ending,
+  ),
+)
+chunk_taken Wrong had old mid new between has before middle after size done now then is same (bytes, long, put, takes) kept (two, short, other, ending) =
+    chunk_unended had old mid new bytes two between has size long short other takes ending
+chunk_taken Short had old mid new between has before middle after size done now then is same (bytes, long, put, takes) kept (two, few, ending) =
+    makes_all (λ all. length all < size + 2) had old new (bytes ++ two) has (takes_all_then had old mid new bytes two between has takes ending)
+    (omega (arith, long, few, length-append bytes two))
+
 -- the line of a chunk, and what stands behind it
 begins_chunk : (had : List ℕ) (old mid : Option (List ℕ)) (text between : List ℕ) (size : ℕ) (more : List ℕ) → IsSizeOf text size → length text ≤ max_chunk_line
     → (takes : Takes had old mid text between) → BeginsChunk (had ++ (takes.came ++ more)) size (between ++ more)
@@ -214,31 +249,31 @@ reads_cut : (had : List ℕ) (old new : Option (List ℕ)) (has room : List ℕ)
 reads_cut had old new has room Is makes none ended = record { came = makes.came; consumed = makes.consumed; so = makes.so; ended = λ is. (none, ended) }
 
 -- behind the line of a chunk that fits
-pub fitting_step : (had : List ℕ) (old mid new : Option (List ℕ)) (text between has : List ℕ) (size most done : ℕ) (before middle after : List ℕ) (s : Step)
+pub fitting_step : (had : List ℕ) (old mid new : Option (List ℕ)) (text between has : List ℕ) (size most done now : ℕ) (before middle after : List ℕ) (s : Step)
     → IsSizeOf text size → length text ≤ max_chunk_line → Takes had old mid text between → 0 < size → size ≤ most - done → take done middle ≡ take done before
-    → TakesChunk between mid new has size done middle after s → TakesStep had old new has most done before after s
-fitting_step had old mid new text between has size most done before middle after (More n) is short takes some fits kept (same, (bytes, long, put, then)) =
+    → done ≤ most → TakesChunk between mid new has size done now middle after s → TakesStep had old new has most done now before after s
+fitting_step had old mid new text between has size most done now before middle after More is short takes some fits kept inside (same, (bytes, long, put, then)) =
     let line = is.reads.1 ∙ append-nil (print_chunk_line is.line) in
     let printed : text ++ (bytes ++ crlf_bytes) ≡ print_chunk_line is.line ++ (bytes ++ crlf_bytes) = ap (λ (w : List ℕ). w ++ (bytes ++ crlf_bytes)) line in
     let few = ap length line in
     let stated = is.states in (
       record { line = is.line; content = bytes },
       record { line = is.reads.0; short = omega arith; stated = long ∙ is.states; some = omega arith },
-      long ∙ sym same,
-      omega arith,
-      ap (λ m. take (done + m) after) same ∙ put ∙ ap (λ (w : List ℕ). w ++ bytes) kept,
+      omega (arith, same, long),
+      omega (arith, same, long),
+      ap (λ m. take m after) same ∙ put ∙ ap (λ (w : List ℕ). w ++ bytes) kept,
       subst (λ (w : List ℕ). Takes had old new w has) printed (takes_then had old mid new text (bytes ++ crlf_bytes) between has takes then),
     )
-fitting_step had old mid new text between has size most done before middle after (Over Cut) is short takes some fits kept all =
+fitting_step had old mid new text between has size most done now before middle after (Over Cut) is short takes some fits kept inside all =
     reads_cut had old new has after (EndsBody (most - done) (take done before))
     (makes_behind had old mid new text between (λ bytes. length bytes < size + 2) (IsCutShort (most - done)) takes all.makes
     (λ more so. inr (inl (size, between ++ more, record { begins = begins_chunk had old mid text between size more is short takes; some = some; fits = fits }, so)))) all.none all.ended
-fitting_step had old mid new text between has size most done before middle after (Over (Bad Malformed)) is short takes some fits kept makes =
+fitting_step had old mid new text between has size most done now before middle after (Over (Bad Malformed)) is short takes some fits kept inside makes =
     reads_bad had old new has after (EndsBody (most - done) (take done before)) Malformed
     (makes_behind had old mid new text between (λ bytes. (size + 2 ≤ length bytes) × (take 2 (drop size bytes) ≢ crlf_bytes)) (IsMalformed (most - done)) takes makes
     (λ more so. inr (inl (size, between ++ more, record { begins = begins_chunk had old mid text between size more is short takes; some = some; fits = fits }, so.0, so.1))))
-fitting_step had old mid new text between has size most done before middle after (Over (Bad TooLarge)) is short takes some fits kept none = absurd none
-fitting_step had old mid new text between has size most done before middle after (Over (Whole n)) is short takes some fits kept none = absurd none
+fitting_step had old mid new text between has size most done now before middle after (Over (Bad TooLarge)) is short takes some fits kept inside none = absurd none
+fitting_step had old mid new text between has size most done now before middle after (Over (Whole n)) is short takes some fits kept inside none = absurd none
 
 -- trailers that were taken
 begins_trailers : (text more : List ℕ) → IsTrailerText text → length text ≤ max_head → BeginsTrailers (text ++ more) more
@@ -254,11 +289,11 @@ begins_trailers text more is short =
     }
 
 -- behind the line of the last chunk
-pub last_step : (had : List ℕ) (old mid new : Option (List ℕ)) (text between has : List ℕ) (most done : ℕ) (before middle after : List ℕ) (s : Step)
+pub last_step : (had : List ℕ) (old mid new : Option (List ℕ)) (text between has : List ℕ) (most done now : ℕ) (before middle after : List ℕ) (s : Step)
     → IsSizeOf text 0 → length text ≤ max_chunk_line → Takes had old mid text between → take done middle ≡ take done before
-    → TakesLast between mid new has done middle after s → TakesStep had old new has most done before after s
-last_step had old mid new text between has most done before middle after (More n) is short takes kept none = absurd none
-last_step had old mid new text between has most done before middle after (Over (Whole n)) is short takes kept (same, put, (trailers, are, few, then)) =
+    → TakesLast between mid new has done middle after s → TakesStep had old new has most done now before after s
+last_step had old mid new text between has most done now before middle after More is short takes kept none = absurd none
+last_step had old mid new text between has most done now before middle after (Over (Whole n)) is short takes kept (same, put, (trailers, are, few, then)) =
     record {
       came = takes.came ++ then.came;
       consumed = Consumes-trans old mid new takes.came then.came takes.consumed then.consumed;
@@ -275,15 +310,15 @@ last_step had old mid new text between has most done before middle after (Over (
   where
     apart : Whole n ≡ Cut → ⊥
     apart e = absurd cc
-last_step had old mid new text between has most done before middle after (Over Cut) is short takes kept all =
+last_step had old mid new text between has most done now before middle after (Over Cut) is short takes kept all =
     reads_cut had old new has after (EndsBody (most - done) (take done before))
     (makes_behind had old mid new text between (BeginsNothing ends_section max_head) (IsCutShort (most - done)) takes all.makes
     (λ more so. inr (inr (between ++ more, begins_chunk had old mid text between 0 more is short takes, so)))) all.none all.ended
-last_step had old mid new text between has most done before middle after (Over (Bad Malformed)) is short takes kept makes =
+last_step had old mid new text between has most done now before middle after (Over (Bad Malformed)) is short takes kept makes =
     reads_bad had old new has after (EndsBody (most - done) (take done before)) Malformed
     (makes_behind had old mid new text between (BeginsWrong ends_section max_head IsTrailerText) (IsMalformed (most - done)) takes makes
     (λ more so. inr (inr (between ++ more, begins_chunk had old mid text between 0 more is short takes, so))))
-last_step had old mid new text between has most done before middle after (Over (Bad TooLarge)) is short takes kept none = absurd none
+last_step had old mid new text between has most done now before middle after (Over (Bad TooLarge)) is short takes kept none = absurd none
 
 -- a chunk with more bytes than there is room for
 pub too_large : (had : List ℕ) (old new : Option (List ℕ)) (text has room : List ℕ) (size most done : ℕ) (content : List ℕ) → IsSizeOf text size → length text ≤ max_chunk_line → Takes had old new text has
@@ -316,9 +351,9 @@ Gathers had old new has room done =
     (chunks : List Chunk) × All IsChunk chunks × (take done room ≡ contents chunks) × Takes had old new (flat_map print_chunk chunks) has
 
 -- one more
-pub gathers_more : (had : List ℕ) (old mid new : Option (List ℕ)) (between has before after : List ℕ) (most done size : ℕ) → Gathers had old mid between before done
-    → TakesStep between mid new has most done before after (More size) → Gathers had old new has after (done + size)
-gathers_more had old mid new between has before after most done size sofar (chunk, is, long, fits, put, takes) =
+pub gathers_more : (had : List ℕ) (old mid new : Option (List ℕ)) (between has before after : List ℕ) (most done now : ℕ) → Gathers had old mid between before done
+    → TakesStep between mid new has most done now before after More → Gathers had old new has after now
+gathers_more had old mid new between has before after most done now sofar (chunk, is, long, fits, put, takes) =
     let chunks = sofar.0 in
     let one : List Chunk = chunk ∷ [] in
     let printed : flat_map print_chunk chunks ++ print_chunk chunk ≡ flat_map print_chunk (chunks ++ one) =
@@ -332,9 +367,9 @@ gathers_more had old mid new between has before after most done size sofar (chun
     )
 
 -- and an end
-pub gathers_all : (had : List ℕ) (old mid new : Option (List ℕ)) (between has before after : List ℕ) (most done : ℕ) (read : BodyRead) → Gathers had old mid between before done
-    → done ≤ most → done ≤ length before → TakesStep between mid new has most done before after (Over read) → ReadsAs had old new has after (IsChunked most) read
-gathers_all had old mid new between has before after most done read sofar fits within over =
+pub gathers_all : (had : List ℕ) (old mid new : Option (List ℕ)) (between has before after : List ℕ) (most done now : ℕ) (read : BodyRead) → Gathers had old mid between before done
+    → done ≤ most → done ≤ length before → TakesStep between mid new has most done now before after (Over read) → ReadsAs had old new has after (IsChunked most) read
+gathers_all had old mid new between has before after most done now read sofar fits within over =
     let chunks = sofar.0 in
     let takes = sofar.3 in
     let long : length (contents chunks) ≡ done = sym (ap length sofar.2) ∙ omega (arith, length-take done before) in
@@ -381,19 +416,21 @@ gathers_none had known room = ([], All-nil IsChunk, refl, takes_none had known)
 
 -- ---- steps
 
-pub fitting_read : (r : Result Step LinkFault) (had : List ℕ) (old mid new : Option (List ℕ)) (text between has : List ℕ) (size most done : ℕ) (before middle after : List ℕ)
-    → IsSizeOf text size → length text ≤ max_chunk_line → Takes had old mid text between → 0 < size → size ≤ most - done → take done middle ≡ take done before
-    → IfOk r (TakesChunk between mid new has size done middle after) → IfOk r (TakesStep had old new has most done before after)
-fitting_read (Ok s) had old mid new text between has size most done before middle after is short takes some fits kept then =
-    fitting_step had old mid new text between has size most done before middle after s is short takes some fits kept then
-fitting_read (Err fault) had old mid new text between has size most done before middle after is short takes some fits kept then = tt
+pub fitting_read : (r : Result Step LinkFault) (had : List ℕ) (old mid new : Option (List ℕ)) (text between has : List ℕ) (size most done at now : ℕ) (before middle after : List ℕ)
+    → IsSizeOf text size → length text ≤ max_chunk_line → Takes had old mid text between → 0 < size → size ≤ most - done → take done middle ≡ take done before → done ≤ most → at ≡ done
+    → IfOk r (TakesChunk between mid new has size at now middle after) → IfOk r (TakesStep had old new has most done now before after)
+fitting_read (Ok s) had old mid new text between has size most done at now before middle after is short takes some fits kept inside same then =
+    fitting_step had old mid new text between has size most done now before middle after s is short takes some fits kept inside
+    (subst (λ (n : ℕ). TakesChunk between mid new has size n now middle after s) same then)
+fitting_read (Err fault) had old mid new text between has size most done at now before middle after is short takes some fits kept inside same then = tt
 
-pub last_read : (r : Result Step LinkFault) (had : List ℕ) (old mid new : Option (List ℕ)) (text between has : List ℕ) (most done : ℕ) (before middle after : List ℕ)
-    → IsSizeOf text 0 → length text ≤ max_chunk_line → Takes had old mid text between → take done middle ≡ take done before
-    → IfOk r (TakesLast between mid new has done middle after) → IfOk r (TakesStep had old new has most done before after)
-last_read (Ok s) had old mid new text between has most done before middle after is short takes kept then =
-    last_step had old mid new text between has most done before middle after s is short takes kept then
-last_read (Err fault) had old mid new text between has most done before middle after is short takes kept then = tt
+pub last_read : (r : Result Step LinkFault) (had : List ℕ) (old mid new : Option (List ℕ)) (text between has : List ℕ) (most done at now : ℕ) (before middle after : List ℕ)
+    → IsSizeOf text 0 → length text ≤ max_chunk_line → Takes had old mid text between → take done middle ≡ take done before → at ≡ done
+    → IfOk r (TakesLast between mid new has at middle after) → IfOk r (TakesStep had old new has most done now before after)
+last_read (Ok s) had old mid new text between has most done at now before middle after is short takes kept same then =
+    last_step had old mid new text between has most done now before middle after s is short takes kept
+    (subst (λ (n : ℕ). TakesLast between mid new has n middle after s) same then)
+last_read (Err fault) had old mid new text between has most done at now before middle after is short takes kept same then = tt
 
 pub at_most : (done most : ℕ) (read : BodyRead) → done ≤ most → ReadsAtMost done read → ReadsAtMost most read
 at_most done most (Whole n) le few = omega arith

@@ -1,5 +1,5 @@
 -- Reads and writes that are counted.
-use Rattle.std.proofs.Common.{ℕ, ◌≡◌, ◌≤◌, ◌+◌, ◌-◌, ◌⊎◌, inl, inr, refl, arith}
+use Rattle.std.proofs.Common.{ℕ, ◌≡◌, ◌≤◌, ◌+◌, ◌-◌, ◌⊎◌, inl, inr, arith}
 use Rattle.http_link.specs.Counts.{AtLeast, MadeMore, Spends}
 
 -- a number no greater
@@ -18,21 +18,14 @@ pub spent_all : {D : Type 0} (Made : D → ℕ → Type 0) (old new : D) (turns 
 spent_all Made old new turns left spends none n least =
     fewer Made new (n + turns) ((n + turns) - left) (omega arith) (spends (n + turns) (fewer Made old ((n + turns) - turns) n (omega arith) least))
 
--- all turns were spent, on two parts, unless something else is so
-pub spent_in_two : {D : Type 0} {Other : Type 0} (Made : D → ℕ → Type 0) (old mid new : D) (turns left : ℕ)
-    → Spends Made old mid turns left → Spends Made mid new left 0 ⊎ Other → MadeMore Made old new turns ⊎ Other
-spent_in_two Made old mid new turns left first (inl second) =
-    inl (spent_all Made old new turns 0 (λ all least. second all (first all least)) refl)
-spent_in_two Made old mid new turns left first (inr other) = inr other
-
 -- all turns were spent, unless something else is so
-pub spent_whole : {D : Type 0} {Other : Type 0} (Made : D → ℕ → Type 0) (old new : D) (turns : ℕ)
-    → Spends Made old new turns 0 ⊎ Other → MadeMore Made old new turns ⊎ Other
-spent_whole Made old new turns (inl spends) = inl (spent_all Made old new turns 0 spends refl)
-spent_whole Made old new turns (inr other) = inr other
+pub spent_whole : {D : Type 0} {Other : Type 0} (Made : D → ℕ → Type 0) (old new : D) (turns left : ℕ)
+    → Spends Made old new turns left → (left ≡ 0) ⊎ Other → MadeMore Made old new turns ⊎ Other
+spent_whole Made old new turns left spends (inl none) = inl (spent_all Made old new turns left spends none)
+spent_whole Made old new turns left spends (inr other) = inr other
 
--- turns were spent on one part, and all that were left on another, unless something else is so
-pub spends_then : {D : Type 0} {Other : Type 0} (Made : D → ℕ → Type 0) (old mid new : D) (turns left : ℕ)
-    → Spends Made old mid turns left → Spends Made mid new left 0 ⊎ Other → Spends Made old new turns 0 ⊎ Other
-spends_then Made old mid new turns left first (inl second) = inl (λ all least. second all (first all least))
-spends_then Made old mid new turns left first (inr other) = inr other
+-- the same, of turns that were spent on two parts
+pub spent_in_two : {D : Type 0} {Other : Type 0} (Made : D → ℕ → Type 0) (old mid new : D) (turns between left : ℕ)
+    → Spends Made old mid turns between → Spends Made mid new between left → (left ≡ 0) ⊎ Other → MadeMore Made old new turns ⊎ Other
+spent_in_two Made old mid new turns between left first second over =
+    spent_whole Made old new turns left (λ all least. second all (first all least)) over

@@ -12,4 +12,5 @@ pub mod Takes
 pub mod ChunkedBodies
 pub mod Sparing
 pub mod Rooms
+pub mod Reported
 pub mod Connections

@@ -172,16 +172,10 @@ abbrev pub traced : (Unasked : Type 0) → (OperatorAsked → Type 0) → (answe
 traced Unasked Asks answer Writes = operator_traces_of Unasked Asks answer (Some []) Writes
 
 -- where nothing is held, only what comes is read
-pub holds_nothing : (held : Held) → held ≡ record { from = 0; to = 0 } → held.to ≤ held.from
-holds_nothing held e =
-    let first = ap (λ (h : Held). h.from) e in
-    let last = ap (λ (h : Held). h.to) e in
-    omega (arith, first, last)
-
 pub reads_fresh : (before : List ℕ) (held : Held) (old new : Option (List ℕ)) (has room : List ℕ) (Is : List ℕ → Body → Type 0) (read : BodyRead)
-    → held ≡ record { from = 0; to = 0 } → ReadsAs (held_in before held) old new has room Is read → ReadsAs [] old new has room Is read
+    → held.to ≤ held.from → ReadsAs (held_in before held) old new has room Is read → ReadsAs [] old new has room Is read
 reads_fresh before held old new has room Is read e reads =
-    subst (λ (w : List ℕ). ReadsAs w old new has room Is read) (none_held before held (holds_nothing held e)) reads
+    subst (λ (w : List ℕ). ReadsAs w old new has room Is read) (none_held before held e) reads
 
 -- a whole body was read, asked, and answered
 pub whole_runs : (r : Result Served LinkFault) (sought : OperatorSought) (head : Head) (old new : Option (List ℕ)) (has room : List ℕ) (n : ℕ) (Unasked : Type 0) (Asks : OperatorAsked → Type 0)

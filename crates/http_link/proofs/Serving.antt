@@ -321,8 +321,3 @@ pub told_cut : {D : Type 0} (old new : D) (tenant_of : RequestKind → List ℕ 
 told_cut old new tenant_of said other had there same_head same_bytes few =
     subst (λ (w : List ℕ). (new ≡ old) ⊎ IsCutBehind (wanted_of tenant_of said) w) same_bytes
     (subst (λ (h : Head). (new ≡ old) ⊎ IsCutBehind (wanted_of tenant_of h) there) same_head few)
-
--- a head that was read off the front of a room, by its spans
-pub said_front : (said : Head) (text room : List ℕ) (n : ℕ) (lines : List HeaderSpan) (spans : RequestSpans) → said ≡ head_in text lines spans → text ≡ take n room
-    → said ≡ head_in (take n room) lines spans
-said_front said text room n lines spans says front = says ∙ ap (λ (t : List ℕ). head_in t lines spans) front

@@ -17,8 +17,6 @@ use Rattle.http_link.specs.declared.chunks.Stated.{Stated}
 use Rattle.http_link.specs.declared.chunks.Stated.TheVariants as stated
 use Rattle.http_link.specs.declared.chunks.Step.{Step}
 use Rattle.http_link.specs.declared.chunks.Step.TheVariants.{More, Over}
-use Rattle.http_link.specs.declared.intake.Reach.{Reach}
-use Rattle.http_link.specs.declared.intake.Reach.TheVariants.{Needed}
 use Rattle.http_link.specs.declared.intake.Sought.{Sought}
 use Rattle.http_link.specs.declared.intake.Sought.TheVariants.{Line, Section}
 use Rattle.http_link.specs.declared.intake.Text.{Text}
@@ -54,10 +52,6 @@ ReadsOnlyFor old new result So Few = ((new ≡ old) × IfOk result So) ⊎ Few
 abbrev pub TakesNext : List ℕ → Option (List ℕ) → Option (List ℕ) → List ℕ → Option ℕ → Type 0
 TakesNext had old new has (Some b) = Takes had old new (b ∷ []) has
 TakesNext had old new has None = TakesEveryByte had old new [] has
-
--- if no more is taken than is needed, and nothing was held, then nothing is held
-abbrev pub ReadsNoFurther : Reach → Held → Held → Type 0
-ReadsNoFurther reach old new = reach ≡ Needed → old.to ≤ old.from → new.to ≤ new.from
 
 -- how the text ends that the reader looks for
 abbrev pub ends_sought : Sought → List ℕ → Bool
@@ -142,31 +136,32 @@ abbrev pub AreTrailersIn : List ℕ → Bool → Type 0
 AreTrailersIn text true = IsTrailerText text
 AreTrailersIn text false = IsTrailerText text → ⊥
 
--- so many bytes are done once a chunk was read
-abbrev pub done_after : ℕ → Step → ℕ
-done_after done (More size) = done + size
-done_after done (Over read) = done
+-- what the bytes after a chunk mean for its body
+abbrev pub step_after : Checked → Step
+step_after Right = More
+step_after Wrong = Over (Bad Malformed)
+step_after Short = Over Cut
 
 -- a body that is over has no more bytes than were done
 abbrev pub StepsTo : ℕ → Step → Type 0
-StepsTo done (More size) = Unit {0}
+StepsTo done More = Unit {0}
 StepsTo done (Over read) = ReadsAtMost done read
 
 -- After a chunk's line with that size. Either the chunk's bytes were taken, and are in the buffer after those before
--- it. Or the bytes end inside the chunk or its line end. Or no line end follows it.
-abbrev pub TakesChunk : List ℕ → Option (List ℕ) → Option (List ℕ) → List ℕ → (size done : ℕ) → (before after : List ℕ) → Step → Type 0
-TakesChunk had old new has size done before after (More n) =
-    (n ≡ size) × ((bytes : List ℕ) × (length bytes ≡ size) × (take (done + size) after ≡ take done before ++ bytes)
+-- it, so that `now` bytes are done. Or the bytes end inside the chunk or its line end. Or no line end follows it.
+abbrev pub TakesChunk : List ℕ → Option (List ℕ) → Option (List ℕ) → List ℕ → (size done now : ℕ) → (before after : List ℕ) → Step → Type 0
+TakesChunk had old new has size done now before after More =
+    (now ≡ done + size) × ((bytes : List ℕ) × (length bytes ≡ size) × (take (done + size) after ≡ take done before ++ bytes)
     × Takes had old new (bytes ++ crlf_bytes) has)
-TakesChunk had old new has size done before after (Over Cut) = MakesAll had old new has (λ bytes. length bytes < size + 2)
-TakesChunk had old new has size done before after (Over (Bad Malformed)) =
+TakesChunk had old new has size done now before after (Over Cut) = MakesAll had old new has (λ bytes. length bytes < size + 2)
+TakesChunk had old new has size done now before after (Over (Bad Malformed)) =
     Makes had old new (λ bytes. (size + 2 ≤ length bytes) × (take 2 (drop size bytes) ≢ crlf_bytes))
-TakesChunk had old new has size done before after (Over (Bad TooLarge)) = ⊥
-TakesChunk had old new has size done before after (Over (Whole n)) = ⊥
+TakesChunk had old new has size done now before after (Over (Bad TooLarge)) = ⊥
+TakesChunk had old new has size done now before after (Over (Whole n)) = ⊥
 
 -- After the line of the last chunk: the trailers were taken, they are cut short, or they are malformed.
 abbrev pub TakesLast : List ℕ → Option (List ℕ) → Option (List ℕ) → List ℕ → (done : ℕ) → (before after : List ℕ) → Step → Type 0
-TakesLast had old new has done before after (More n) = ⊥
+TakesLast had old new has done before after More = ⊥
 TakesLast had old new has done before after (Over (Whole n)) =
     (n ≡ done) × (take done after ≡ take done before)
     × ((text : List ℕ) × IsTrailerText text × (length text ≤ max_head) × Takes had old new text has)
@@ -175,10 +170,11 @@ TakesLast had old new has done before after (Over (Bad Malformed)) =
     Makes had old new (BeginsWrong ends_section max_head IsTrailerText)
 TakesLast had old new has done before after (Over (Bad TooLarge)) = ⊥
 
--- a chunk was taken, and is in the buffer after those before it; or the held bytes and those that came end a body
-abbrev pub TakesStep : List ℕ → Option (List ℕ) → Option (List ℕ) → List ℕ → (most done : ℕ) → (before after : List ℕ) → Step → Type 0
-TakesStep had old new has most done before after (More size) =
-    (chunk : Chunk) × IsChunk chunk × (length chunk.content ≡ size) × (size ≤ most - done)
-    × (take (done + size) after ≡ take done before ++ chunk.content) × Takes had old new (print_chunk chunk) has
-TakesStep had old new has most done before after (Over read) =
+-- a chunk was taken, and is in the buffer after those before it, so that `now` bytes are done; or the held bytes and those
+-- that came end a body
+abbrev pub TakesStep : List ℕ → Option (List ℕ) → Option (List ℕ) → List ℕ → (most done now : ℕ) → (before after : List ℕ) → Step → Type 0
+TakesStep had old new has most done now before after More =
+    (chunk : Chunk) × IsChunk chunk × (now ≡ done + length chunk.content) × (now ≤ most)
+    × (take now after ≡ take done before ++ chunk.content) × Takes had old new (print_chunk chunk) has
+TakesStep had old new has most done now before after (Over read) =
     ReadsAs had old new has after (EndsBody (most - done) (take done before)) read

@@ -1,6 +1,7 @@
 pub mod Limits
 pub mod Counts
 pub mod Telling
+pub mod StreamCalls
 pub mod Fields
 pub mod Heads
 pub mod Bodies

@@ -4,20 +4,14 @@ use Rattle.http_link.specs.Counts.{MadeAll, Spends}
 use Rattle.http_link.specs.declared.streams.LinkFault.{LinkFault}
 use Rattle.http_link.specs.declared.streams.LinkFault.TheVariants.{Read, Write, Turns}
 
--- The faults of a call that only reads, each as one of its own. The reader had failed `before` times, and so many
--- turns were left.
-pub record TellsReadsAs {F : Type 0} (told : LinkFault → F) {D X : Type 0} (failures : D → ℕ) (Made : D → ℕ → Type 0) (before : ℕ) (old new : D) (turns left : ℕ) (result : Result X F) : Type 0 where
+-- The faults of a call that only reads, from a reader that had failed `before` times, with so many turns left.
+pub record TellsReads {D X : Type 0} (failures : D → ℕ) (Made : D → ℕ → Type 0) (before : ℕ) (old new : D) (turns left : ℕ) (result : Result X LinkFault) : Type 0 where
   -- A failed read is reported exactly if the reader has failed, and a failed write never.
-  pub read : (result ≡ Err (told Read)) ↔ (before < failures new)
-  pub write : result ≢ Err (told Write)
+  pub read : (result ≡ Err Read) ↔ (before < failures new)
+  pub write : result ≢ Err Write
   -- That no turn is left is reported only if none is, and each turn that was used was a read.
-  pub spent : result ≡ Err (told Turns) → left ≡ 0
+  pub spent : result ≡ Err Turns → left ≡ 0
   pub made : Spends Made old new turns left
-
--- The same of a call whose faults are those of its connection.
-abbrev pub TellsReads : {D X : Type 0} → (failures : D → ℕ) → (Made : D → ℕ → Type 0) → (before : ℕ) → (old new : D) → (turns left : ℕ)
-    → Result X LinkFault → Type 0
-TellsReads = TellsReadsAs (λ fault. fault)
 
 -- The faults of a call that only writes, to a writer that had failed `before` times.
 pub record TellsWrites {D X : Type 0} (failures : D → ℕ) (Made : D → ℕ → Type 0) (before : ℕ) (old new : D) (result : Result X LinkFault) : Type 0 where

@@ -1,16 +1,15 @@
 //! Bodies that are read: of a stated length, or in chunks.
 
-ghost use Rattle.std.specs.Prelude.{◌≡◌, ◌≢◌, ◌↔◌, ◌⊎◌, ◌<◌, ◌≤◌, length, min, Err, IfOk};
-ghost use Rattle.http_link.specs.Telling.{TellsReads};
+ghost use Rattle.std.specs.Prelude.{◌≡◌, ◌⊎◌, ◌<◌, ◌≤◌, length, min, Err, IfOk};
 ghost use Rattle.http_link.specs.Bodies.{IsBody, IsSized, cut, most_of};
-ghost use Rattle.http_link.specs.BodyReading.{LiesBehind, ReadsAs, ReadsAtMost, ReadsNoFurther};
-ghost use Rattle.http_link.specs.Running.{held_in};
+ghost use Rattle.http_link.specs.BodyReading.{ReadsAs, ReadsAtMost};
+ghost use Rattle.http_link.specs.StreamCalls.{ReadsNoFurther, Reports, held_of, to_come};
 
 use crate::chunks::read_chunks;
 use crate::devices::Source;
 use crate::held::{Held, move_to_front};
-use crate::intake::{Intake, Manner, Reach};
-use crate::streams::{LinkFault, read_on};
+use crate::stream::Stream;
+use crate::streams::LinkFault;
 
 /// How the end of a body is known. (RFC 9112, 6.3)
 #[derive(Clone, Copy, Debug, PartialEq, Eq)]
@@ -41,57 +40,42 @@ pub(crate) enum BodyRead {
     Bad(BodyFault),
 }
 
-/// Reads a body into the front of the buffer, which holds some bytes of it already. At the end it holds the bytes that
+/// Reads a body into the front of the room, which holds some bytes of it already. At the end it holds the bytes that
 /// follow the body.
 pub(crate) fn read_body<R: Source>(
-    r: &mut R,
-    room: &mut [u8],
-    intake: &mut Intake,
+    stream: &mut Stream<'_, '_, R>,
     framing: Framing,
-    manner: Manner,
 ) -> Result<BodyRead, LinkFault>
-    requires lies { LiesBehind 0 room.old intake.old.held }
-    requires wide { most_of framing ≤ length room.old }
-    requires unfailed { R.failure_count r.old ≤ manner.before }
-    ensures len { length room.new ≡ length room.old }
-    ensures lies { LiesBehind 0 room.new intake.new.held }
-    ensures reads { IfOk result (ReadsAs (held_in room.old intake.old.held) (R.remaining r.old) (R.remaining r.new)
-        (held_in room.new intake.new.held) room.new (IsBody framing)) }
+    requires none { stream.old.done ≡ 0 }
+    requires wide { most_of framing ≤ length stream.old.room.now }
+    ensures reads { IfOk result (ReadsAs (held_of stream.old) (to_come stream.old) (to_come stream.new) (held_of stream.new)
+        stream.new.room.now (IsBody framing)) }
     ensures fits { IfOk result (ReadsAtMost (most_of framing)) }
-    ensures at_once { (r.new ≡ r.old) ⊎ IsBody framing (held_in room.old intake.old.held) cut }
-    ensures exact { ReadsNoFurther manner.reach intake.old.held intake.new.held }
-    ensures told { TellsReads R.failure_count R.was_read manner.before r.old r.new intake.old.turns intake.new.turns result }
+    ensures at_once { (stream.new.reader.now ≡ stream.old.reader.now) ⊎ IsBody framing (held_of stream.old) cut }
+    ensures exact { ReadsNoFurther stream.old stream.new }
+    ensures reports { Reports stream.old stream.new result }
 {
     match framing {
-        Framing::Sized(size) => read_sized(r, room, intake, size, manner),
-        Framing::Chunked(most) => read_chunks(r, room, intake, most, manner),
+        Framing::Sized(size) => read_sized(stream, size),
+        Framing::Chunked(most) => read_chunks(stream, most),
     }
 }
 
 // Reads a body of a stated length.
-fn read_sized<R: Source>(
-    r: &mut R,
-    room: &mut [u8],
-    intake: &mut Intake,
-    size: usize,
-    manner: Manner,
-) -> Result<BodyRead, LinkFault>
-    requires lies { LiesBehind 0 room.old intake.old.held }
-    requires wide { size ≤ length room.old }
-    requires unfailed { R.failure_count r.old ≤ manner.before }
-    ensures len { length room.new ≡ length room.old }
-    ensures lies { LiesBehind 0 room.new intake.new.held }
-    ensures reads { IfOk result (ReadsAs (held_in room.old intake.old.held) (R.remaining r.old) (R.remaining r.new)
-        (held_in room.new intake.new.held) room.new (IsSized size)) }
+fn read_sized<R: Source>(stream: &mut Stream<'_, '_, R>, size: usize) -> Result<BodyRead, LinkFault>
+    requires none { stream.old.done ≡ 0 }
+    requires wide { size ≤ length stream.old.room.now }
+    ensures reads { IfOk result (ReadsAs (held_of stream.old) (to_come stream.old) (to_come stream.new) (held_of stream.new)
+        stream.new.room.now (IsSized size)) }
     ensures fits { IfOk result (ReadsAtMost size) }
-    ensures at_once { size ≤ length (held_in room.old intake.old.held) → r.new ≡ r.old }
-    ensures exact { ReadsNoFurther Reach.Needed intake.old.held intake.new.held }
-    ensures told { TellsReads R.failure_count R.was_read manner.before r.old r.new intake.old.turns intake.new.turns result }
+    ensures at_once { size ≤ length (held_of stream.old) → stream.new.reader.now ≡ stream.old.reader.now }
+    ensures exact { ReadsNoFurther stream.old stream.new }
+    ensures reports { Reports stream.old stream.new result }
 {
-    move_to_front(room, &mut intake.held);
-    let had = intake.held.to;
-    let there = read_on(r, room, had, size, manner.before, &mut intake.turns)?;
-    intake.held = used(size, there);
+    move_to_front(stream.room, &mut stream.held);
+    let had = stream.held.to;
+    let there = stream.read_on(had, size)?;
+    stream.held = used(size, there);
     if there < size {
         return Ok(BodyRead::Cut);
     }

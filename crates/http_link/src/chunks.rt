@@ -1,21 +1,22 @@
 //! Bodies in chunks, decoded in place as they come. (RFC 9112, 7.1)
 
-ghost use Rattle.std.specs.Prelude.{◌≡◌, ◌≢◌, ◌↔◌, ◌⊎◌, ◌+◌, ◌-◌, ◌<◌, ◌≤◌, ◌∷◌, ◌++◌, [], length, take, drop, min, Err, IfOk, IsTrue};
+ghost use Rattle.std.specs.Prelude.{◌≡◌, ◌↔◌, ◌⊎◌, ◌+◌, ◌-◌, ◌<◌, ◌≤◌, ◌∷◌, ◌++◌, [], length, take, drop, min, Err, IfOk, IsTrue};
 ghost use Rattle.httparse.specs.Ascii.{crlf_bytes};
-ghost use Rattle.http_link.specs.Telling.{TellsReads};
 ghost use Rattle.http_link.specs.Limits.{max_chunk_line, max_head};
 ghost use Rattle.http_link.specs.Bodies.{BeginsNothing, IsChunked, IsCutShort, cut, ends_line, ends_section};
-ghost use Rattle.http_link.specs.BodyReading.{AreTrailersIn, IsStatedIn, LiesBehind, ReadsAs, ReadsAtMost, ReadsNoFurther};
+ghost use Rattle.http_link.specs.BodyReading.{AreTrailersIn, IsStatedIn, LiesBehind, ReadsAs, ReadsAtMost, ReadsOnlyFor};
 ghost use Rattle.http_link.specs.BodyReading.{TakesBytes, TakesChunk, TakesEnd, TakesLast, TakesSize, TakesStep};
-ghost use Rattle.http_link.specs.BodyReading.{ReadsOnlyFor, StepsTo, done_after, no_more};
+ghost use Rattle.http_link.specs.BodyReading.{StepsTo, no_more, step_after};
 ghost use Rattle.http_link.specs.Running.{held_in};
+ghost use Rattle.http_link.specs.StreamCalls.{ReadsNoFurther, Reports, held_of, to_come};
 
 use crate::bodies::{BodyFault, BodyRead};
 use crate::devices::Source;
 use crate::head::{MAX_HEAD, MAX_LINES};
 use crate::held::Held;
-use crate::intake::{Intake, Manner, Reach, Sought, Text, next_byte, read_text};
-use crate::streams::{LinkFault, read_on};
+use crate::intake::{Sought, Text, read_text};
+use crate::stream::Stream;
+use crate::streams::LinkFault;
 use httparse::spans::{EMPTY_HEADER_SPAN, parse_headers};
 use httparse::{Status, parse_chunk_size};
 
@@ -47,73 +48,55 @@ enum Checked {
 /// What a chunk means for a body.
 #[derive(Clone, Copy)]
 enum Step {
-    /// It has so many bytes more, and goes on.
-    More(usize),
+    /// It goes on after the chunk.
+    More,
     /// It is over.
     Over(BodyRead),
 }
 
-/// Reads a body in chunks, of so many bytes at most in all, into the front of the buffer, which holds some bytes of it
+/// Reads a body in chunks, of so many bytes at most in all, into the front of the room, which holds some bytes of it
 /// already. A chunk that passes that limit is refused by its line, before it is read.
 pub(crate) fn read_chunks<R: Source>(
-    r: &mut R,
-    room: &mut [u8],
-    intake: &mut Intake,
+    stream: &mut Stream<'_, '_, R>,
     most: usize,
-    manner: Manner,
 ) -> Result<BodyRead, LinkFault>
-    requires lies { LiesBehind 0 room.old intake.old.held }
-    requires wide { most ≤ length room.old }
-    requires unfailed { R.failure_count r.old ≤ manner.before }
-    ensures len { length room.new ≡ length room.old }
-    ensures lies { LiesBehind 0 room.new intake.new.held }
-    ensures reads { IfOk result (ReadsAs (held_in room.old intake.old.held) (R.remaining r.old) (R.remaining r.new)
-        (held_in room.new intake.new.held) room.new (IsChunked most)) }
+    requires none { stream.old.done ≡ 0 }
+    requires wide { most ≤ length stream.old.room.now }
+    ensures reads { IfOk result (ReadsAs (held_of stream.old) (to_come stream.old) (to_come stream.new) (held_of stream.new)
+        stream.new.room.now (IsChunked most)) }
     ensures fits { IfOk result (ReadsAtMost most) }
-    ensures at_once { (r.new ≡ r.old) ⊎ IsChunked most (held_in room.old intake.old.held) cut }
-    ensures exact { ReadsNoFurther manner.reach intake.old.held intake.new.held }
-    ensures told { TellsReads R.failure_count R.was_read manner.before r.old r.new intake.old.turns intake.new.turns result }
+    ensures at_once { (stream.new.reader.now ≡ stream.old.reader.now) ⊎ IsChunked most (held_of stream.old) cut }
+    ensures exact { ReadsNoFurther stream.old stream.new }
+    ensures reports { Reports stream.old stream.new result }
 {
-    let mut done = 0;
     loop {
-        match read_step(r, room, intake, most, done, manner)? {
-            Step::More(size) => done += size,
+        match read_step(stream, most)? {
+            Step::More => {}
             Step::Over(read) => return Ok(read),
         }
     }
 }
 
 // Reads a chunk after those that are done, or what ends a body.
-fn read_step<R: Source>(
-    r: &mut R,
-    room: &mut [u8],
-    intake: &mut Intake,
-    most: usize,
-    done: usize,
-    manner: Manner,
-) -> Result<Step, LinkFault>
-    requires lies { LiesBehind done room.old intake.old.held }
-    requires fits { done ≤ most }
-    requires wide { most ≤ length room.old }
-    requires unfailed { R.failure_count r.old ≤ manner.before }
-    ensures len { length room.new ≡ length room.old }
-    ensures held { LiesBehind 0 room.new intake.new.held }
-    ensures lies { IfOk result (λ step. LiesBehind (done_after done step) room.new intake.new.held) }
-    ensures fits { IfOk result (StepsTo done) }
-    ensures taken { IfOk result (TakesStep (held_in room.old intake.old.held) (R.remaining r.old) (R.remaining r.new)
-        (held_in room.new intake.new.held) most done room.old room.new) }
-    ensures at_once { ReadsOnlyFor r.old r.new result (TakesStep (held_in room.old intake.old.held) no_more no_more
-        (held_in room.new intake.new.held) most done room.old room.new) (IsCutShort (most - done) (held_in room.old intake.old.held)) }
-    ensures exact { ReadsNoFurther manner.reach intake.old.held intake.new.held }
-    ensures told { TellsReads R.failure_count R.was_read manner.before r.old r.new intake.old.turns intake.new.turns result }
+fn read_step<R: Source>(stream: &mut Stream<'_, '_, R>, most: usize) -> Result<Step, LinkFault>
+    requires fits { stream.old.done ≤ most }
+    requires wide { most ≤ length stream.old.room.now }
+    ensures fits { IfOk result (StepsTo stream.old.done) }
+    ensures taken { IfOk result (TakesStep (held_of stream.old) (to_come stream.old) (to_come stream.new) (held_of stream.new)
+        most stream.old.done stream.new.done stream.old.room.now stream.new.room.now) }
+    ensures at_once { ReadsOnlyFor stream.old.reader.now stream.new.reader.now result
+        (TakesStep (held_of stream.old) no_more no_more (held_of stream.new) most stream.old.done stream.new.done stream.old.room.now stream.new.room.now)
+        (IsCutShort (most - stream.old.done) (held_of stream.old)) }
+    ensures exact { ReadsNoFurther stream.old stream.new }
+    ensures reports { Reports stream.old stream.new result }
 {
-    match read_size(r, room, intake, done, manner)? {
-        Stated::Size(0) => read_end(r, room, intake, done, manner),
+    match read_size(stream)? {
+        Stated::Size(0) => read_end(stream),
         Stated::Size(size) => {
-            if size > (most - done) as u64 {
+            if size > (most - stream.done) as u64 {
                 return Ok(Step::Over(BodyRead::Bad(BodyFault::TooLarge)));
             }
-            read_chunk(r, room, intake, done, size as usize, manner)
+            read_chunk(stream, size as usize)
         }
         Stated::Malformed => Ok(Step::Over(BodyRead::Bad(BodyFault::Malformed))),
         Stated::Short => Ok(Step::Over(BodyRead::Cut)),
@@ -121,27 +104,17 @@ fn read_step<R: Source>(
 }
 
 // Reads the line of a chunk.
-fn read_size<R: Source>(
-    r: &mut R,
-    room: &mut [u8],
-    intake: &mut Intake,
-    done: usize,
-    manner: Manner,
-) -> Result<Stated, LinkFault>
-    requires lies { LiesBehind done room.old intake.old.held }
-    requires unfailed { R.failure_count r.old ≤ manner.before }
-    ensures len { length room.new ≡ length room.old }
-    ensures kept { IfOk result (λ given. take done room.new ≡ take done room.old) }
-    ensures lies { LiesBehind done room.new intake.new.held }
-    ensures taken { IfOk result (TakesSize (held_in room.old intake.old.held) (R.remaining r.old) (R.remaining r.new)
-        (held_in room.new intake.new.held)) }
-    ensures at_once { ReadsOnlyFor r.old r.new result (TakesSize (held_in room.old intake.old.held) no_more no_more
-        (held_in room.new intake.new.held)) (BeginsNothing ends_line max_chunk_line (held_in room.old intake.old.held)) }
-    ensures exact { ReadsNoFurther manner.reach intake.old.held intake.new.held }
-    ensures told { TellsReads R.failure_count R.was_read manner.before r.old r.new intake.old.turns intake.new.turns result }
+fn read_size<R: Source>(stream: &mut Stream<'_, '_, R>) -> Result<Stated, LinkFault>
+    ensures kept { IfOk result (λ given. take stream.old.done stream.new.room.now ≡ take stream.old.done stream.old.room.now) }
+    ensures done { stream.new.done ≡ stream.old.done }
+    ensures taken { IfOk result (TakesSize (held_of stream.old) (to_come stream.old) (to_come stream.new) (held_of stream.new)) }
+    ensures at_once { ReadsOnlyFor stream.old.reader.now stream.new.reader.now result
+        (TakesSize (held_of stream.old) no_more no_more (held_of stream.new)) (BeginsNothing ends_line max_chunk_line (held_of stream.old)) }
+    ensures exact { ReadsNoFurther stream.old stream.new }
+    ensures reports { Reports stream.old stream.new result }
 {
     let mut line = [0u8; MAX_CHUNK_LINE];
-    match read_text(r, room, intake, done, Sought::Line, &mut line, manner)? {
+    match read_text(stream, Sought::Line, &mut line)? {
         Text::Found(n) => match size_in(&line[..n]) {
             Some(size) => Ok(Stated::Size(size)),
             None => Ok(Stated::Malformed),
@@ -168,68 +141,56 @@ fn size_in(text: &[u8]) -> Option<u64>
 }
 
 // Reads a chunk of that size and the line end after it.
-fn read_chunk<R: Source>(
-    r: &mut R,
-    room: &mut [u8],
-    intake: &mut Intake,
-    done: usize,
-    size: usize,
-    manner: Manner,
-) -> Result<Step, LinkFault>
-    requires lies { LiesBehind done room.old intake.old.held }
-    requires wide { done + size ≤ length room.old }
-    requires unfailed { R.failure_count r.old ≤ manner.before }
-    ensures len { length room.new ≡ length room.old }
-    ensures held { LiesBehind 0 room.new intake.new.held }
-    ensures lies { IfOk result (λ step. LiesBehind (done_after done step) room.new intake.new.held) }
-    ensures fits { IfOk result (StepsTo done) }
-    ensures taken { IfOk result (TakesChunk (held_in room.old intake.old.held) (R.remaining r.old) (R.remaining r.new)
-        (held_in room.new intake.new.held) size done room.old room.new) }
-    ensures at_once { ReadsOnlyFor r.old r.new result (TakesChunk (held_in room.old intake.old.held) no_more no_more
-        (held_in room.new intake.new.held) size done room.old room.new) (length (held_in room.old intake.old.held) < size + 2) }
-    ensures exact { ReadsNoFurther manner.reach intake.old.held intake.new.held }
-    ensures told { TellsReads R.failure_count R.was_read manner.before r.old r.new intake.old.turns intake.new.turns result }
+fn read_chunk<R: Source>(stream: &mut Stream<'_, '_, R>, size: usize) -> Result<Step, LinkFault>
+    requires wide { stream.old.done + size ≤ length stream.old.room.now }
+    ensures fits { IfOk result (StepsTo stream.old.done) }
+    ensures taken { IfOk result (TakesChunk (held_of stream.old) (to_come stream.old) (to_come stream.new) (held_of stream.new)
+        size stream.old.done stream.new.done stream.old.room.now stream.new.room.now) }
+    ensures at_once { ReadsOnlyFor stream.old.reader.now stream.new.reader.now result
+        (TakesChunk (held_of stream.old) no_more no_more (held_of stream.new) size stream.old.done stream.new.done stream.old.room.now stream.new.room.now)
+        (length (held_of stream.old) < size + 2) }
+    ensures exact { ReadsNoFurther stream.old stream.new }
+    ensures reports { Reports stream.old stream.new result }
 {
-    if !read_bytes(r, room, intake, done, size, manner)? {
+    if !read_bytes(stream, size)? {
         return Ok(Step::Over(BodyRead::Cut));
     }
-    match read_line_end(r, room, intake, done + size, manner)? {
-        Checked::Right => Ok(Step::More(size)),
-        Checked::Wrong => Ok(Step::Over(BodyRead::Bad(BodyFault::Malformed))),
-        Checked::Short => Ok(Step::Over(BodyRead::Cut)),
+    stream.done += size;
+    Ok(step_after(read_line_end(stream)?))
+}
+
+// What the bytes after a chunk mean for its body.
+fn step_after(ending: Checked) -> Step
+    ensures { result ≡ step_after ending }
+{
+    match ending {
+        Checked::Right => Step::More,
+        Checked::Wrong => Step::Over(BodyRead::Bad(BodyFault::Malformed)),
+        Checked::Short => Step::Over(BodyRead::Cut),
     }
 }
 
 // Puts the bytes of a chunk after those that are done: first those that are held, then those of the reader. Returns
 // whether there are as many.
-fn read_bytes<R: Source>(
-    r: &mut R,
-    room: &mut [u8],
-    intake: &mut Intake,
-    done: usize,
-    size: usize,
-    manner: Manner,
-) -> Result<bool, LinkFault>
-    requires lies { LiesBehind done room.old intake.old.held }
-    requires wide { done + size ≤ length room.old }
-    requires unfailed { R.failure_count r.old ≤ manner.before }
-    ensures len { length room.new ≡ length room.old }
-    ensures held { LiesBehind done room.new intake.new.held }
-    ensures lies { IfOk result (λ all. IsTrue all → LiesBehind (done + size) room.new intake.new.held) }
-    ensures taken { IfOk result (TakesBytes (held_in room.old intake.old.held) (R.remaining r.old) (R.remaining r.new)
-        (held_in room.new intake.new.held) size done room.old room.new) }
-    ensures at_once { ReadsOnlyFor r.old r.new result (TakesBytes (held_in room.old intake.old.held) no_more no_more
-        (held_in room.new intake.new.held) size done room.old room.new) (length (held_in room.old intake.old.held) < size) }
-    ensures exact { ReadsNoFurther Reach.Needed intake.old.held intake.new.held }
-    ensures told { TellsReads R.failure_count R.was_read manner.before r.old r.new intake.old.turns intake.new.turns result }
+fn read_bytes<R: Source>(stream: &mut Stream<'_, '_, R>, size: usize) -> Result<bool, LinkFault>
+    requires wide { stream.old.done + size ≤ length stream.old.room.now }
+    ensures done { stream.new.done ≡ stream.old.done }
+    ensures after { IfOk result (λ all. IsTrue all → stream.old.done + size ≤ stream.new.held.from) }
+    ensures taken { IfOk result (TakesBytes (held_of stream.old) (to_come stream.old) (to_come stream.new) (held_of stream.new)
+        size stream.old.done stream.old.room.now stream.new.room.now) }
+    ensures at_once { ReadsOnlyFor stream.old.reader.now stream.new.reader.now result
+        (TakesBytes (held_of stream.old) no_more no_more (held_of stream.new) size stream.old.done stream.old.room.now stream.new.room.now)
+        (length (held_of stream.old) < size) }
+    ensures exact { ReadsNoFurther stream.old stream.new }
+    ensures reports { Reports stream.old stream.new result }
 {
-    let moved = move_bytes(room, &mut intake.held, done, size);
+    let (done, end) = (stream.done, stream.done + size);
+    let moved = move_bytes(stream.room, &mut stream.held, done, size);
     if moved == size {
         return Ok(true);
     }
-    let end = done + size;
-    let there = read_on(r, room, done + moved, end, manner.before, &mut intake.turns)?;
-    intake.held = Held {
+    let there = stream.read_on(done + moved, end)?;
+    stream.held = Held {
         from: there,
         to: there,
     };
@@ -256,29 +217,19 @@ fn move_bytes(room: &mut [u8], held: &mut Held, done: usize, size: usize) -> usi
 }
 
 // Reads the line end after a chunk.
-fn read_line_end<R: Source>(
-    r: &mut R,
-    room: &mut [u8],
-    intake: &mut Intake,
-    done: usize,
-    manner: Manner,
-) -> Result<Checked, LinkFault>
-    requires lies { LiesBehind done room.old intake.old.held }
-    requires unfailed { R.failure_count r.old ≤ manner.before }
-    ensures len { length room.new ≡ length room.old }
-    ensures kept { IfOk result (λ given. take done room.new ≡ take done room.old) }
-    ensures lies { LiesBehind done room.new intake.new.held }
-    ensures taken { IfOk result (TakesEnd (held_in room.old intake.old.held) (R.remaining r.old) (R.remaining r.new)
-        (held_in room.new intake.new.held)) }
-    ensures at_once { ReadsOnlyFor r.old r.new result (TakesEnd (held_in room.old intake.old.held) no_more no_more
-        (held_in room.new intake.new.held)) (length (held_in room.old intake.old.held) < 2) }
-    ensures exact { ReadsNoFurther manner.reach intake.old.held intake.new.held }
-    ensures told { TellsReads R.failure_count R.was_read manner.before r.old r.new intake.old.turns intake.new.turns result }
+fn read_line_end<R: Source>(stream: &mut Stream<'_, '_, R>) -> Result<Checked, LinkFault>
+    ensures kept { IfOk result (λ given. take stream.old.done stream.new.room.now ≡ take stream.old.done stream.old.room.now) }
+    ensures done { stream.new.done ≡ stream.old.done }
+    ensures taken { IfOk result (TakesEnd (held_of stream.old) (to_come stream.old) (to_come stream.new) (held_of stream.new)) }
+    ensures at_once { ReadsOnlyFor stream.old.reader.now stream.new.reader.now result
+        (TakesEnd (held_of stream.old) no_more no_more (held_of stream.new)) (length (held_of stream.old) < 2) }
+    ensures exact { ReadsNoFurther stream.old stream.new }
+    ensures reports { Reports stream.old stream.new result }
 {
-    let Some(first) = next_byte(r, room, intake, done, manner)? else {
+    let Some(first) = stream.next_byte()? else {
         return Ok(Checked::Short);
     };
-    let Some(second) = next_byte(r, room, intake, done, manner)? else {
+    let Some(second) = stream.next_byte()? else {
         return Ok(Checked::Short);
     };
     if is_line_end(first, second) {
@@ -294,29 +245,19 @@ fn is_line_end(first: u8, second: u8) -> bool
 }
 
 // Reads the trailers after the last chunk, and drops them.
-fn read_end<R: Source>(
-    r: &mut R,
-    room: &mut [u8],
-    intake: &mut Intake,
-    done: usize,
-    manner: Manner,
-) -> Result<Step, LinkFault>
-    requires lies { LiesBehind done room.old intake.old.held }
-    requires unfailed { R.failure_count r.old ≤ manner.before }
-    ensures len { length room.new ≡ length room.old }
-    ensures held { LiesBehind done room.new intake.new.held }
-    ensures lies { IfOk result (λ step. LiesBehind (done_after done step) room.new intake.new.held) }
-    ensures fits { IfOk result (StepsTo done) }
-    ensures taken { IfOk result (TakesLast (held_in room.old intake.old.held) (R.remaining r.old) (R.remaining r.new)
-        (held_in room.new intake.new.held) done room.old room.new) }
-    ensures at_once { ReadsOnlyFor r.old r.new result (TakesLast (held_in room.old intake.old.held) no_more no_more
-        (held_in room.new intake.new.held) done room.old room.new)
-        (BeginsNothing ends_section max_head (held_in room.old intake.old.held)) }
-    ensures exact { ReadsNoFurther manner.reach intake.old.held intake.new.held }
-    ensures told { TellsReads R.failure_count R.was_read manner.before r.old r.new intake.old.turns intake.new.turns result }
+fn read_end<R: Source>(stream: &mut Stream<'_, '_, R>) -> Result<Step, LinkFault>
+    ensures fits { IfOk result (StepsTo stream.old.done) }
+    ensures taken { IfOk result (TakesLast (held_of stream.old) (to_come stream.old) (to_come stream.new) (held_of stream.new)
+        stream.old.done stream.old.room.now stream.new.room.now) }
+    ensures at_once { ReadsOnlyFor stream.old.reader.now stream.new.reader.now result
+        (TakesLast (held_of stream.old) no_more no_more (held_of stream.new) stream.old.done stream.old.room.now stream.new.room.now)
+        (BeginsNothing ends_section max_head (held_of stream.old)) }
+    ensures exact { ReadsNoFurther stream.old stream.new }
+    ensures reports { Reports stream.old stream.new result }
 {
+    let done = stream.done;
     let mut text = [0u8; MAX_HEAD];
-    match read_text(r, room, intake, done, Sought::Section, &mut text, manner)? {
+    match read_text(stream, Sought::Section, &mut text)? {
         Text::Found(n) => {
             if are_trailers(&text[..n]) {
                 return Ok(Step::Over(BodyRead::Whole(done)));

@@ -13,10 +13,11 @@ use crate::answer::put_head;
 use crate::devices::{Sink, Source};
 use crate::grammar::Offered;
 use crate::head::{MAX_HEAD, MAX_LINES, find_head};
-use crate::intake::NOTHING;
+use crate::intake::Reach;
 use crate::line_buffer::{LineBuffer, write_message};
 use crate::request::RequestHead;
-use crate::serve::{Before, Served, head_in, refuse};
+use crate::serve::{Served, head_in, refuse};
+use crate::stream::Stream;
 use crate::streams::LinkFault;
 use httparse::spans::{EMPTY_HEADER_SPAN, RequestSpans};
 
@@ -77,16 +78,16 @@ pub(crate) fn serve_door<R: Source, W: Sink, S, D: Answers<S>>(
     ensures turns { result ≡ Err LinkFault.Turns
         → MadeAll R.was_read r.old r.new ⊎ MadeAll W.was_written w.old w.new }
 {
-    let before = Before::one(r, w);
-    let mut intake = NOTHING;
+    let before = w.failures();
     let mut text = [0u8; MAX_HEAD];
     let mut lines = [EMPTY_HEADER_SPAN; MAX_LINES];
-    match find_head::<RequestSpans, _>(r, &mut text, &mut intake, &mut lines, before.manner)? {
+    let mut stream = Stream::new(r, &mut text, Reach::Needed);
+    match find_head::<RequestSpans, _>(&mut stream, &mut lines)? {
         Offered::Partial => Ok(Served::Ended),
-        Offered::Malformed => refuse(w, 400, before.writes),
+        Offered::Malformed => refuse(w, 400, before),
         Offered::Whole(spans) => {
-            let head = head_in(&text[..spans.len], &lines, spans);
-            D::answer(w, service, &head, before.writes)
+            let head = head_in(stream.front(spans.len), &lines, spans);
+            D::answer(w, service, &head, before)
         }
     }
 }

@@ -2,15 +2,16 @@
 
 ghost use Rattle.std.specs.Prelude.{◌≡◌, ◌≢◌, ◌↔◌, ◌⊎◌, ◌+◌, ◌-◌, ◌<◌, ◌≤◌, ◌==◌, ℕ, length, slice_index, take, true, false, Err, IfOk, IfSome, IsTrue};
 ghost use Rattle.std.specs.List.{list_all};
-ghost use Rattle.http_link.specs.Telling.{TellsReads};
 ghost use Rattle.http_link.specs.Grammars.{ends_empty_line, is_line_end};
 ghost use Rattle.http_link.specs.Reading.{BeginsNone, BeginsNot, Decides, EndsAt, IsHeadBegun, HeadIsFound, Sees, SeesFurther};
 ghost use Rattle.http_link.specs.Limits.{max_head};
+ghost use Rattle.http_link.specs.StreamCalls.{Reports, to_come};
 
 use crate::devices::Source;
 use crate::grammar::{HeadSpans, Offered};
-use crate::intake::{Intake, Manner, Reach};
-use crate::streams::{LinkFault, fetch};
+use crate::intake::Reach;
+use crate::stream::Stream;
+use crate::streams::LinkFault;
 use httparse::spans::HeaderSpan;
 use memchr::{memchr, memrchr};
 
@@ -136,37 +137,31 @@ fn scan<H: HeadSpans>(
     }
 }
 
-/// Reads until a head is at the front of the buffer, which may hold some bytes already, or until none can be. If the
+/// Reads until a head is at the front of the room, which may hold some bytes already, or until none can be. If the
 /// stream has ended, the answer is `Partial`.
 pub(crate) fn find_head<H: HeadSpans, R: Source>(
-    r: &mut R,
-    room: &mut [u8],
-    intake: &mut Intake,
+    stream: &mut Stream<'_, '_, R>,
     lines: &mut [HeaderSpan],
-    manner: Manner,
 ) -> Result<Offered<H>, LinkFault>
-    requires front { intake.old.held.from ≡ 0 }
-    requires there { intake.old.held.to ≤ length room.old }
-    requires wide { max_head ≤ length room.old }
-    requires unfailed { R.failure_count r.old ≤ manner.before }
-    ensures len { length room.new ≡ length room.old }
+    requires front { stream.old.held.from ≡ 0 }
+    requires wide { max_head ≤ length stream.old.room.now }
     ensures lines { length lines.new ≡ length lines.old }
-    ensures front { intake.new.held.from ≡ 0 }
-    ensures there { intake.new.held.to ≤ length room.new }
-    ensures found { IfOk result (HeadIsFound H.grammar (take intake.old.held.to room.old) (R.remaining r.old) (R.remaining r.new)
-        (take intake.new.held.to room.new) lines.new) }
-    ensures at_once { ((r.new ≡ r.old) × (take intake.new.held.to room.new ≡ take intake.old.held.to room.old))
-        ⊎ BeginsNot H.grammar (take intake.old.held.to room.old) (length lines.new) }
-    ensures exact { manner.reach ≡ Reach.Needed → intake.old.held.to ≡ 0
-        → IfOk result (EndsAt H.grammar intake.new.held.to) }
-    ensures told { TellsReads R.failure_count R.was_read manner.before r.old r.new intake.old.turns intake.new.turns result }
+    ensures front { stream.new.held.from ≡ 0 }
+    ensures found { IfOk result (HeadIsFound H.grammar (take stream.old.held.to stream.old.room.now) (to_come stream.old) (to_come stream.new)
+        (take stream.new.held.to stream.new.room.now) lines.new) }
+    ensures at_once { ((stream.new.reader.now ≡ stream.old.reader.now)
+        × (take stream.new.held.to stream.new.room.now ≡ take stream.old.held.to stream.old.room.now))
+        ⊎ BeginsNot H.grammar (take stream.old.held.to stream.old.room.now) (length lines.new) }
+    ensures exact { stream.old.reach ≡ Reach.Needed → stream.old.held.to ≡ 0
+        → IfOk result (EndsAt H.grammar stream.new.held.to) }
+    ensures reports { Reports stream.old stream.new result }
 {
     let mut seen = 0;
     let mut parsed = 0;
     let mut blank = 0;
     loop {
-        let end = intake.held.to.min(MAX_HEAD);
-        match scan(&room[..end], &mut seen, &mut parsed, &mut blank, lines) {
+        let end = stream.held.to.min(MAX_HEAD);
+        match scan(stream.front(end), &mut seen, &mut parsed, &mut blank, lines) {
             Offered::Partial => {}
             Offered::Whole(spans) => return Ok(Offered::Whole(spans)),
             Offered::Malformed => return Ok(Offered::Malformed),
@@ -174,11 +169,11 @@ pub(crate) fn find_head<H: HeadSpans, R: Source>(
         if end == MAX_HEAD {
             return Ok(Offered::Malformed);
         }
-        let limit = manner.reach.limit(end, room.len());
-        let n = fetch(r, room, end, limit, manner.before, &mut intake.turns)?;
+        let limit = stream.reach.limit(end, stream.room.len());
+        let n = stream.fetch(end, limit)?;
         if n == 0 {
             return Ok(Offered::Partial);
         }
-        intake.held.to += n;
+        stream.held.to += n;
     }
 }

@@ -10,6 +10,9 @@ pub(crate) struct Held {
     pub(crate) to: usize,
 }
 
+/// No bytes.
+pub(crate) const NOTHING: Held = Held { from: 0, to: 0 };
+
 /// Moves them to the front of the room.
 pub(crate) fn move_to_front(room: &mut [u8], held: &mut Held)
     requires within { (held.old.from ≤ held.old.to) × (held.old.to ≤ length room.old) }

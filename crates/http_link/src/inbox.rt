@@ -2,25 +2,26 @@
 
 ghost use Rattle.std.specs.Prelude.{◌≡◌, ◌≢◌, ◌↔◌, ◌+◌, ◌<◌, ◌≤◌, ◌⊎◌, List, [], ℕ, length, take, drop, Some, Ok, Err, IfOk};
 ghost use Rattle.std.specs.Io.KnownBytes.{Appends};
-ghost use Rattle.http_link.specs.BodyReading.{LiesBehind};
 ghost use Rattle.http_link.specs.Telling.{TellsFailures};
-ghost use Rattle.http_link.specs.Counts.{MadeAll, Spends};
-ghost use Rattle.http_link.specs.Connections.{AreTooFew, AsksNext, Awaits, IsCutBehind, ServesNext};
+ghost use Rattle.http_link.specs.Counts.{MadeAll};
+ghost use Rattle.http_link.specs.Connections.{AreTooFew, AsksNext, IsCutBehind, ServesNext};
 ghost use Rattle.http_link.specs.Lines.{head_in};
 ghost use Rattle.http_link.specs.Grammars.{IsRequest};
 ghost use Rattle.http_link.specs.Requests.{wanted_of};
-ghost use Rattle.http_link.specs.Running.{AsksWanted, RunsOnHead, held_in};
+ghost use Rattle.http_link.specs.Running.{AsksWanted, RunsOnHead};
 ghost use Rattle.http_link.specs.Limits.{max_body, max_lines, max_request};
+ghost use Rattle.http_link.specs.StreamCalls.{Continues, held_of, to_come};
 
 use crate::devices::{Sink, Source};
 use crate::grammar::Offered;
 use crate::head::{MAX_HEAD, MAX_LINES, find_head};
 use crate::held::{Held, move_to_front};
-use crate::intake::{Intake, Manner, Reach};
+use crate::intake::Reach;
 use crate::request::MAX_BODY;
-use crate::serve::{Before, Served, head_in, refuse, serve_head};
+use crate::serve::{Served, refuse, serve_head};
 use crate::service::Service;
-use crate::streams::{LinkFault, MAX_READS, fetch};
+use crate::stream::Stream;
+use crate::streams::LinkFault;
 use httparse::spans::{EMPTY_HEADER_SPAN, HeaderSpan, RequestSpans};
 use std::marker::Model;
 
@@ -89,10 +90,13 @@ impl Inbox {
         ensures only { result ≢ Err LinkFault.Write }
         ensures turns { result ≡ Err LinkFault.Turns → MadeAll R.was_read r.old r.new }
     {
-        let mut held = self.held;
-        let result = await_any(r, &mut self.room, &mut held);
-        self.held = held;
-        result
+        if self.held.from < self.held.to {
+            return Ok(true);
+        }
+        let mut stream = Stream::new(r, &mut self.room, Reach::Ahead);
+        let n = stream.fetch(0, ROOM)?;
+        self.held = Held { from: 0, to: n };
+        Ok(n > 0)
     }
 }
 
@@ -128,119 +132,48 @@ pub fn serve_next<R: Source, W: Sink, S: Service>(
     ensures turns { result ≡ Err LinkFault.Turns
         → MadeAll R.was_read r.old r.new ⊎ MadeAll W.was_written w.old w.new }
 {
-    let mut held = inbox.held;
-    let result = serve_held(r, w, service, &mut inbox.room, &mut inbox.lines, &mut held);
-    inbox.held = held;
+    move_to_front(&mut inbox.room, &mut inbox.held);
+    let before = w.failures();
+    let mut stream = Stream::new(r, &mut inbox.room, Reach::Ahead);
+    stream.held = inbox.held;
+    let result = serve_held(&mut stream, w, service, &mut inbox.lines, before);
+    inbox.held = stream.held;
     result
 }
 
-// Waits until something is held.
-fn await_any<R: Source>(r: &mut R, room: &mut [u8], held: &mut Held) -> Result<bool, LinkFault>
-    requires some { 0 < length room.old }
-    requires within { (held.old.from ≤ held.old.to) × (held.old.to ≤ length room.old) }
-    ensures len { length room.new ≡ length room.old }
-    ensures within { (held.new.from ≤ held.new.to) × (held.new.to ≤ length room.new) }
-    ensures awaited { IfOk result (Awaits (held_in room.old held.old) (R.remaining r.old) (R.remaining r.new) (held_in room.new held.new)) }
-    ensures at_once { (r.new ≡ r.old) ⊎ (held_in room.old held.old ≡ []) }
-    ensures read { (result ≡ Err LinkFault.Read) ↔ (R.failure_count r.old < R.failure_count r.new) }
-    ensures only { result ≢ Err LinkFault.Write }
-    ensures turns { result ≡ Err LinkFault.Turns → MadeAll R.was_read r.old r.new }
-{
-    if held.from < held.to {
-        return Ok(true);
-    }
-    let (before, limit) = (r.failures(), room.len());
-    let mut turns = MAX_READS;
-    let n = fetch(r, room, 0, limit, before, &mut turns)?;
-    *held = Held { from: 0, to: n };
-    Ok(n > 0)
-}
-
-// Serves the next request, of which some bytes are held in the room.
+// Serves the next request, of which some bytes are held at the front of the room.
 fn serve_held<R: Source, W: Sink, S: Service>(
-    r: &mut R,
+    stream: &mut Stream<'_, '_, R>,
     w: &mut W,
     service: &mut S,
-    room: &mut [u8],
     lines: &mut [HeaderSpan],
-    held: &mut Held,
+    before: u64,
 ) -> Result<Served, LinkFault>
-    requires wide { max_request ≤ length room.old }
+    requires wide { max_request ≤ length stream.old.room.now }
     requires lines { length lines.old ≡ max_lines }
-    requires within { (held.old.from ≤ held.old.to) × (held.old.to ≤ length room.old) }
-    ensures len { length room.new ≡ length room.old }
-    ensures within { (held.new.from ≤ held.new.to) × (held.new.to ≤ length room.new) }
-    ensures serves { IfOk result (ServesNext (S.tenant_of service.old) (held_in room.old held.old) (R.remaining r.old) (R.remaining r.new) (record {
+    requires front { stream.old.held.from ≡ 0 }
+    requires unfailed { W.failure_count w.old ≤ before }
+    ensures serves { IfOk result (ServesNext (S.tenant_of service.old) (take stream.old.held.to stream.old.room.now) (to_come stream.old) (to_come stream.new) (record {
       Unasked = service.new ≡ service.old;
       Asks = λ question. S.asks service.old question service.new;
       answer = S.answer service.new;
-      left = Some (held_in room.new held.new);
+      left = Some (held_of stream.new);
       Writes = λ text. Appends (W.contents w.old) (W.contents w.new) text;
     })) }
-    ensures asks { AsksNext (S.tenant_of service.old) (held_in room.old held.old) (R.remaining r.old) (R.remaining r.new)
+    ensures asks { AsksNext (S.tenant_of service.old) (take stream.old.held.to stream.old.room.now) (to_come stream.old) (to_come stream.new)
         (service.new ≡ service.old) (λ question. S.asks service.old question service.new) }
-    ensures at_once { (r.new ≡ r.old) ⊎ AreTooFew (S.tenant_of service.old) (held_in room.old held.old) }
+    ensures at_once { (stream.new.reader.now ≡ stream.old.reader.now)
+        ⊎ AreTooFew (S.tenant_of service.old) (take stream.old.held.to stream.old.room.now) }
     ensures unread { result ≡ Err LinkFault.Read → service.new ≡ service.old }
-    ensures failed { TellsFailures (R.failure_count r.old < R.failure_count r.new) (W.failure_count w.old < W.failure_count w.new) result }
-    ensures turns { result ≡ Err LinkFault.Turns
-        → MadeAll R.was_read r.old r.new ⊎ MadeAll W.was_written w.old w.new }
+    ensures continues { Continues stream.old stream.new }
+    ensures failed { TellsFailures (stream.old.failures < stream.new.failures) (before < W.failure_count w.new) result }
+    ensures turns { result ≡ Err LinkFault.Turns → (stream.new.turns ≡ 0) ⊎ MadeAll W.was_written w.old w.new }
 {
-    let before = Before {
-        manner: Manner {
-            reach: Reach::Ahead,
-            before: r.failures(),
-        },
-        writes: w.failures(),
-    };
-    move_to_front(room, held);
-    let mut intake = Intake {
-        held: *held,
-        turns: MAX_READS,
-    };
-    let result = serve_from_front(r, w, service, room, lines, &mut intake, before);
-    *held = intake.held;
-    result
-}
-
-// The same, of what is held at the front of the room.
-fn serve_from_front<R: Source, W: Sink, S: Service>(
-    r: &mut R,
-    w: &mut W,
-    service: &mut S,
-    room: &mut [u8],
-    lines: &mut [HeaderSpan],
-    intake: &mut Intake,
-    before: Before,
-) -> Result<Served, LinkFault>
-    requires wide { max_request ≤ length room.old }
-    requires lines { length lines.old ≡ max_lines }
-    requires front { intake.old.held.from ≡ 0 }
-    requires there { intake.old.held.to ≤ length room.old }
-    requires reads { R.failure_count r.old ≤ before.manner.before }
-    requires writes { W.failure_count w.old ≤ before.writes }
-    ensures len { length room.new ≡ length room.old }
-    ensures lies { LiesBehind 0 room.new intake.new.held }
-    ensures serves { IfOk result (ServesNext (S.tenant_of service.old) (take intake.old.held.to room.old) (R.remaining r.old) (R.remaining r.new) (record {
-      Unasked = service.new ≡ service.old;
-      Asks = λ question. S.asks service.old question service.new;
-      answer = S.answer service.new;
-      left = Some (held_in room.new intake.new.held);
-      Writes = λ text. Appends (W.contents w.old) (W.contents w.new) text;
-    })) }
-    ensures asks { AsksNext (S.tenant_of service.old) (take intake.old.held.to room.old) (R.remaining r.old) (R.remaining r.new)
-        (service.new ≡ service.old) (λ question. S.asks service.old question service.new) }
-    ensures at_once { (r.new ≡ r.old) ⊎ AreTooFew (S.tenant_of service.old) (take intake.old.held.to room.old) }
-    ensures unread { result ≡ Err LinkFault.Read → service.new ≡ service.old }
-    ensures failed { TellsFailures (before.manner.before < R.failure_count r.new) (before.writes < W.failure_count w.new) result }
-    ensures turns { result ≡ Err LinkFault.Turns
-        → Spends R.was_read r.old r.new intake.old.turns 0 ⊎ MadeAll W.was_written w.old w.new }
-{
-    match find_head::<RequestSpans, _>(r, room, intake, lines, before.manner)? {
+    match find_head::<RequestSpans, _>(stream, lines)? {
         Offered::Partial => Ok(Served::Ended),
-        Offered::Malformed => refuse(w, 400, before.writes),
+        Offered::Malformed => refuse(w, 400, before),
         Offered::Whole(spans) => {
-            let parsed = Parsed { lines, spans };
-            serve_found(r, w, service, room, intake, parsed, before)
+            serve_found(stream, w, service, Parsed { lines, spans }, before)
         }
     }
 }
@@ -254,51 +187,58 @@ struct Parsed<'b> {
 
 // Serves the request whose head was found at the front of what is held.
 fn serve_found<R: Source, W: Sink, S: Service>(
-    r: &mut R,
+    stream: &mut Stream<'_, '_, R>,
     w: &mut W,
     service: &mut S,
-    room: &mut [u8],
-    intake: &mut Intake,
     parsed: Parsed<'_>,
-    before: Before,
+    before: u64,
 ) -> Result<Served, LinkFault>
-    requires wide { parsed.spans.len + max_body ≤ length room.old }
-    requires front { intake.old.held.from ≡ 0 }
-    requires there { (parsed.spans.len ≤ intake.old.held.to) × (intake.old.held.to ≤ length room.old) }
-    requires head { IsRequest (take parsed.spans.len room.old) parsed.lines.now parsed.spans }
-    requires reads { R.failure_count r.old ≤ before.manner.before }
-    requires writes { W.failure_count w.old ≤ before.writes }
-    ensures len { length room.new ≡ length room.old }
-    ensures lies { LiesBehind 0 room.new intake.new.held }
-    ensures runs { IfOk result (RunsOnHead (wanted_of (S.tenant_of service.old) (head_in (take parsed.entry.spans.len room.old) parsed.entry.lines.now parsed.entry.spans))
-        (head_in (take parsed.entry.spans.len room.old) parsed.entry.lines.now parsed.entry.spans) (drop parsed.entry.spans.len (take intake.old.held.to room.old)) (R.remaining r.old) (R.remaining r.new) (record {
+    requires wide { parsed.spans.len + max_body ≤ length stream.old.room.now }
+    requires front { stream.old.held.from ≡ 0 }
+    requires there { parsed.spans.len ≤ stream.old.held.to }
+    requires head { IsRequest (take parsed.spans.len stream.old.room.now) parsed.lines.now parsed.spans }
+    requires unfailed { W.failure_count w.old ≤ before }
+    ensures runs { IfOk result (RunsOnHead (wanted_of (S.tenant_of service.old) (head_in (take parsed.entry.spans.len stream.old.room.now) parsed.entry.lines.now parsed.entry.spans))
+        (head_in (take parsed.entry.spans.len stream.old.room.now) parsed.entry.lines.now parsed.entry.spans)
+        (drop parsed.entry.spans.len (take stream.old.held.to stream.old.room.now)) (to_come stream.old) (to_come stream.new) (record {
           Unasked = service.new ≡ service.old;
           Asks = λ question. S.asks service.old question service.new;
           answer = S.answer service.new;
-          left = Some (held_in room.new intake.new.held);
+          left = Some (held_of stream.new);
           Writes = λ text. Appends (W.contents w.old) (W.contents w.new) text;
         })) }
-    ensures asks { AsksWanted (wanted_of (S.tenant_of service.old) (head_in (take parsed.entry.spans.len room.old) parsed.entry.lines.now parsed.entry.spans))
-        (drop parsed.entry.spans.len (take intake.old.held.to room.old)) (R.remaining r.old) (R.remaining r.new)
+    ensures asks { AsksWanted (wanted_of (S.tenant_of service.old) (head_in (take parsed.entry.spans.len stream.old.room.now) parsed.entry.lines.now parsed.entry.spans))
+        (drop parsed.entry.spans.len (take stream.old.held.to stream.old.room.now)) (to_come stream.old) (to_come stream.new)
         (service.new ≡ service.old) (λ question. S.asks service.old question service.new) }
-    ensures at_once { (r.new ≡ r.old)
-        ⊎ IsCutBehind (wanted_of (S.tenant_of service.old) (head_in (take parsed.entry.spans.len room.old) parsed.entry.lines.now parsed.entry.spans))
-        (drop parsed.entry.spans.len (take intake.old.held.to room.old)) }
+    ensures at_once { (stream.new.reader.now ≡ stream.old.reader.now)
+        ⊎ IsCutBehind (wanted_of (S.tenant_of service.old) (head_in (take parsed.entry.spans.len stream.old.room.now) parsed.entry.lines.now parsed.entry.spans))
+        (drop parsed.entry.spans.len (take stream.old.held.to stream.old.room.now)) }
     ensures unread { result ≡ Err LinkFault.Read → service.new ≡ service.old }
-    ensures failed { TellsFailures (before.manner.before < R.failure_count r.new) (before.writes < W.failure_count w.new) result }
-    ensures turns { result ≡ Err LinkFault.Turns
-        → Spends R.was_read r.old r.new intake.old.turns 0 ⊎ MadeAll W.was_written w.old w.new }
+    ensures continues { Continues stream.old stream.new }
+    ensures failed { TellsFailures (stream.old.failures < stream.new.failures) (before < W.failure_count w.new) result }
+    ensures turns { result ≡ Err LinkFault.Turns → (stream.new.turns ≡ 0) ⊎ MadeAll W.was_written w.old w.new }
 {
     let len = parsed.spans.len;
+    let room = &mut *stream.room;
     let (text, rest) = room.split_at_mut(len);
-    let head = head_in(text, parsed.lines, parsed.spans);
-    intake.held = Held {
-        from: 0,
-        to: intake.held.to - len,
+    let mut after_head = Stream {
+        reader: stream.reader,
+        room: rest,
+        done: 0,
+        held: Held {
+            from: 0,
+            to: stream.held.to - len,
+        },
+        reach: stream.reach,
+        turns: stream.turns,
+        failures: stream.failures,
     };
-    let result = serve_head(r, w, service, rest, intake, &head, before);
-    let Held { from, to } = intake.held;
-    intake.held = Held {
+    let Parsed { lines, spans } = parsed;
+    let result = serve_head(&mut after_head, w, service, text, lines, spans, before);
+    let Held { from, to } = after_head.held;
+    stream.turns = after_head.turns;
+    stream.failures = after_head.failures;
+    stream.held = Held {
         from: len + from,
         to: len + to,
     };

@@ -32,6 +32,7 @@ mod posting;
 mod request;
 mod serve;
 mod service;
+mod stream;
 mod streams;
 
 pub use arrival::{OperatorArrival, OperatorList, host_arrival, operator_arrival};

@@ -6,7 +6,7 @@ ghost use Rattle.httparse.specs.Grammar as grammar;
 ghost use Rattle.common_types.specs.Outcomes.{Gives};
 ghost use Rattle.http_link.specs.Bodies.{most_of};
 ghost use Rattle.http_link.specs.Answers.{line};
-ghost use Rattle.http_link.specs.Counts.{MadeAll, Spends};
+ghost use Rattle.http_link.specs.Counts.{MadeAll};
 ghost use Rattle.http_link.specs.Telling.{TellsFailures, TellsWrites};
 ghost use Rattle.http_link.specs.Heads.{BeginsWith, head_of};
 ghost use Rattle.http_link.specs.Limits.{max_command};
@@ -15,19 +15,22 @@ ghost use Rattle.http_link.specs.OperatorDoor.{AsksOperatorCame, AsksOperatorSou
 ghost use Rattle.http_link.specs.OperatorDoor.{admitted, operator_asking, operator_interim, operator_media, operator_media_line, operator_method, operator_refusal_text};
 ghost use Rattle.http_link.specs.OperatorDoor.{operator_sought_at, operator_sought_of, operator_text, operator_traces_of, operator_wanted_at};
 ghost use Rattle.http_link.specs.Serving.{WritesNothingOr400};
+ghost use Rattle.http_link.specs.StreamCalls.{Continues, to_come};
 
 use crate::bodies::{BodyRead, read_body};
 use crate::devices::{Sink, Source};
 use crate::door::write_closing;
 use crate::grammar::Offered;
 use crate::head::{MAX_HEAD, MAX_LINES, find_head};
-use crate::intake::{Intake, NOTHING, Reach};
+use crate::held::NOTHING;
+use crate::intake::Reach;
 use crate::operator_request::{
     OperatorRefusal, OperatorRequest, OperatorSought, OperatorWanted, Topic, operator_sought_of,
 };
 use crate::operator_service::OperatorService;
-use crate::request::{MAX_COMMAND, RequestHead, waits};
-use crate::serve::{Before, Served, continue_text, head_in, refusal_of, refuse};
+use crate::request::{RequestHead, waits};
+use crate::serve::{Served, continue_text, head_in, refusal_of, refuse};
+use crate::stream::Stream;
 use crate::streams::{LinkFault, write_all};
 use httparse::spans::{EMPTY_HEADER_SPAN, RequestSpans};
 
@@ -90,17 +93,19 @@ pub fn serve_operator<R: Source, W: Sink, S: OperatorService>(
     ensures turns { result ≡ Err LinkFault.Turns
         → MadeAll R.was_read r.old r.new ⊎ MadeAll W.was_written w.old w.new }
 {
-    let before = Before::one(r, w);
-    let mut intake = NOTHING;
+    let before = w.failures();
     let mut text = [0u8; MAX_HEAD];
+    let mut room = [0u8; MAX_HEAD];
     let mut lines = [EMPTY_HEADER_SPAN; MAX_LINES];
-    match find_head::<RequestSpans, _>(r, &mut text, &mut intake, &mut lines, before.manner)? {
+    let mut stream = Stream::new(r, &mut room, Reach::Needed);
+    match find_head::<RequestSpans, _>(&mut stream, &mut lines)? {
         Offered::Partial => Ok(Served::Ended),
-        Offered::Malformed => refuse(w, 400, before.writes),
+        Offered::Malformed => refuse(w, 400, before),
         Offered::Whole(spans) => {
+            stream.copy_front(spans.len, &mut text);
+            stream.held = NOTHING;
             let head = head_in(&text[..spans.len], &lines, spans);
-            intake.held = NOTHING.held;
-            serve_after_head(r, w, service, &mut intake, &head, before)
+            serve_after_head(&mut stream, w, service, &head, before)
         }
     }
 }
@@ -122,27 +127,26 @@ fn sought_there<'b, S: OperatorService>(
 
 // Serves a request after its head, of whose body nothing has come.
 fn serve_after_head<R: Source, W: Sink, S: OperatorService>(
-    r: &mut R,
+    stream: &mut Stream<'_, '_, R>,
     w: &mut W,
     service: &mut S,
-    intake: &mut Intake,
     head: &RequestHead,
-    before: Before,
+    before: u64,
 ) -> Result<Served, LinkFault>
-    requires held { intake.old.held ≡ record { from = 0; to = 0 } }
-    requires needed { before.manner.reach ≡ Reach.Needed }
-    requires reads { R.failure_count r.old ≤ before.manner.before }
-    requires writes { W.failure_count w.old ≤ before.writes }
+    requires room { max_command ≤ length stream.old.room.now }
+    requires none { (stream.old.held.from ≡ 0) × (stream.old.held.to ≡ 0) }
+    requires needed { stream.old.reach ≡ Reach.Needed }
+    requires unfailed { W.failure_count w.old ≤ before }
     ensures runs { IfOk result (RunsOnOperatorHead (admitted (S.refusal service.old) (operator_sought_of (head_at head.now))) (head_at head.now)
-        (R.remaining r.old) (R.remaining r.new) (operator_traces_of (service.new ≡ service.old)
+        (to_come stream.old) (to_come stream.new) (operator_traces_of (service.new ≡ service.old)
         (λ question. S.asks service.old question service.new) (S.answer service.new) (Some [])
         (λ text. Appends (W.contents w.old) (W.contents w.new) text))) }
-    ensures asks { AsksOperatorSought (admitted (S.refusal service.old) (operator_sought_of (head_at head.now))) (R.remaining r.old) (R.remaining r.new)
+    ensures asks { AsksOperatorSought (admitted (S.refusal service.old) (operator_sought_of (head_at head.now))) (to_come stream.old) (to_come stream.new)
         (service.new ≡ service.old) (λ question. S.asks service.old question service.new) }
     ensures unread { result ≡ Err LinkFault.Read → service.new ≡ service.old }
-    ensures failed { TellsFailures (before.manner.before < R.failure_count r.new) (before.writes < W.failure_count w.new) result }
-    ensures turns { result ≡ Err LinkFault.Turns
-        → Spends R.was_read r.old r.new intake.old.turns 0 ⊎ MadeAll W.was_written w.old w.new }
+    ensures continues { Continues stream.old stream.new }
+    ensures failed { TellsFailures (stream.old.failures < stream.new.failures) (before < W.failure_count w.new) result }
+    ensures turns { result ≡ Err LinkFault.Turns → (stream.new.turns ≡ 0) ⊎ MadeAll W.was_written w.old w.new }
 {
     match sought_there(service, head) {
         Ok(sought) => {
@@ -150,46 +154,43 @@ fn serve_after_head<R: Source, W: Sink, S: OperatorService>(
                 head: *head,
                 sought,
             };
-            serve_sought(r, w, service, intake, request, before)
+            serve_sought(stream, w, service, request, before)
         }
-        Err(refusal) => refuse_operator(w, refusal, before.writes),
+        Err(refusal) => refuse_operator(w, refusal, before),
     }
 }
 
 // Serves a request that nothing refuses.
 fn serve_sought<R: Source, W: Sink, S: OperatorService>(
-    r: &mut R,
+    stream: &mut Stream<'_, '_, R>,
     w: &mut W,
     service: &mut S,
-    intake: &mut Intake,
     request: OperatorAsks<'_>,
-    before: Before,
+    before: u64,
 ) -> Result<Served, LinkFault>
-    requires size { most_of request.sought.framing ≤ max_command }
-    requires held { intake.old.held ≡ record { from = 0; to = 0 } }
-    requires needed { before.manner.reach ≡ Reach.Needed }
-    requires reads { R.failure_count r.old ≤ before.manner.before }
-    requires writes { W.failure_count w.old ≤ before.writes }
+    requires size { most_of request.sought.framing ≤ length stream.old.room.now }
+    requires none { (stream.old.held.from ≡ 0) × (stream.old.held.to ≡ 0) }
+    requires needed { stream.old.reach ≡ Reach.Needed }
+    requires unfailed { W.failure_count w.old ≤ before }
     ensures runs { IfOk result (RunsOnOperatorHead (Ok (operator_sought_at request.entry.sought)) (head_at request.entry.head)
-        (R.remaining r.old) (R.remaining r.new) (operator_traces_of (service.new ≡ service.old)
+        (to_come stream.old) (to_come stream.new) (operator_traces_of (service.new ≡ service.old)
         (λ question. S.asks service.old question service.new) (S.answer service.new) (Some [])
         (λ text. Appends (W.contents w.old) (W.contents w.new) text))) }
-    ensures asks { AsksOperatorSought (Ok (operator_sought_at request.entry.sought)) (R.remaining r.old) (R.remaining r.new)
+    ensures asks { AsksOperatorSought (Ok (operator_sought_at request.entry.sought)) (to_come stream.old) (to_come stream.new)
         (service.new ≡ service.old) (λ question. S.asks service.old question service.new) }
     ensures unread { result ≡ Err LinkFault.Read → service.new ≡ service.old }
-    ensures failed { TellsFailures (before.manner.before < R.failure_count r.new) (before.writes < W.failure_count w.new) result }
-    ensures turns { result ≡ Err LinkFault.Turns
-        → Spends R.was_read r.old r.new intake.old.turns 0 ⊎ MadeAll W.was_written w.old w.new }
+    ensures continues { Continues stream.old stream.new }
+    ensures failed { TellsFailures (stream.old.failures < stream.new.failures) (before < W.failure_count w.new) result }
+    ensures turns { result ≡ Err LinkFault.Turns → (stream.new.turns ≡ 0) ⊎ MadeAll W.was_written w.old w.new }
 {
     let OperatorAsks { head, sought } = request;
-    let mut room = [0u8; MAX_COMMAND];
-    write_all(w, interim(sought.wanted.request, &head), before.writes)?;
-    match read_body(r, &mut room, intake, sought.framing, before.manner)? {
+    write_all(w, interim(sought.wanted.request, &head), before)?;
+    match read_body(stream, sought.framing)? {
         BodyRead::Whole(size) => {
-            ask_operator(w, service, &sought.wanted, &room[..size], before.writes)
+            ask_operator(w, service, &sought.wanted, stream.front(size), before)
         }
         BodyRead::Cut => Ok(Served::Ended),
-        BodyRead::Bad(fault) => refuse(w, refusal_of(fault), before.writes),
+        BodyRead::Bad(fault) => refuse(w, refusal_of(fault), before),
     }
 }
 

@@ -5,13 +5,11 @@ ghost use Rattle.httparse.specs.Spans.{IsResponseWithin, header_bytes};
 ghost use Rattle.common_types.specs.Numbers.{is_between};
 ghost use Rattle.std.specs.Io.KnownBytes.{Appends};
 ghost use Rattle.http_link.specs.Counts.{MadeAll};
-ghost use Rattle.http_link.specs.Telling.{TellsReadsAs};
 ghost use Rattle.http_link.specs.Lines.{lines_at, occurrence_at};
-ghost use Rattle.http_link.specs.BodyReading.{LiesBehind};
 ghost use Rattle.http_link.specs.Client.{FitsAnswer, GivesAs, Means, framing_by, framing_in, given, post_fault_of, post_head, post_text, sized_by};
 ghost use Rattle.common_types.specs.Numerals.{value_of};
 ghost use Rattle.http_link.specs.Limits.{max_peer_answer, max_heads};
-ghost use Rattle.http_link.specs.Running.{held_in};
+ghost use Rattle.http_link.specs.StreamCalls.{ReportsAs, held_of, to_come};
 
 use crate::bodies::{BodyFault, BodyRead, Framing, read_body};
 use crate::devices::{Sink, Source};
@@ -19,9 +17,10 @@ use crate::fields::{FieldValue, Lines, is_chunked, is_length, value_up_to};
 use crate::grammar::Offered;
 use crate::head::{MAX_LINES, find_head};
 use crate::held::move_to_front;
-use crate::intake::{Intake, Manner, NOTHING, Reach};
+use crate::intake::Reach;
 use crate::line_buffer::{LineBuffer, write_message};
-use crate::streams::{LinkFault, has_ended, read_on};
+use crate::stream::Stream;
+use crate::streams::LinkFault;
 use common_types::limits::MAX_FRAME;
 use httparse::spans::{EMPTY_HEADER_SPAN, HeaderSpan, ResponseSpans};
 use ilp_addr::Target;
@@ -118,15 +117,10 @@ pub fn post<R: Source, W: Sink>(
     ensures turns { result ≡ Err PostFault.Turns
         → MadeAll R.was_read r.old r.new ⊎ MadeAll W.was_written w.old w.new }
 {
-    let (before, writes) = (r.failures(), w.failures());
+    let before = w.failures();
     let mut head = post_head(target, frame.len());
-    write_message(w, &mut head, frame, writes)?;
-    let manner = Manner {
-        reach: Reach::Ahead,
-        before,
-    };
-    let mut intake = NOTHING;
-    read_answer(r, out, &mut intake, manner)
+    write_message(w, &mut head, frame, before)?;
+    read_answer(&mut Stream::new(r, out, Reach::Ahead))
 }
 
 // The head of the request that posts so many bytes.
@@ -158,36 +152,28 @@ pub(crate) enum AnswerFraming {
 }
 
 // Reads an answer, its heads and its body, in the room for it.
-fn read_answer<R: Source>(
-    r: &mut R,
-    out: &mut [u8],
-    intake: &mut Intake,
-    manner: Manner,
-) -> Result<usize, PostFault>
-    requires room { max_peer_answer ≤ length out.old }
-    requires none { (intake.old.held.from ≡ 0) × (intake.old.held.to ≡ 0) }
-    requires unfailed { R.failure_count r.old ≤ manner.before }
-    ensures means { (stream : List ℕ) → R.remaining r.old ≡ Some stream
-        → result ≢ Err PostFault.Read → result ≢ Err PostFault.Turns → Means max_heads stream (given result out.new) }
+fn read_answer<R: Source>(stream: &mut Stream<'_, '_, R>) -> Result<usize, PostFault>
+    requires room { max_peer_answer ≤ length stream.old.room.now }
+    requires none { (stream.old.held.from ≡ 0) × (stream.old.held.to ≡ 0) }
+    ensures means { (bytes : List ℕ) → to_come stream.old ≡ Some bytes
+        → result ≢ Err PostFault.Read → result ≢ Err PostFault.Turns → Means max_heads bytes (given result stream.new.room.now) }
     ensures bound { IfOk result (λ n. n ≤ max_peer_answer) }
-    ensures len { length out.new ≡ length out.old }
-    ensures told { TellsReadsAs post_fault_of R.failure_count R.was_read manner.before r.old r.new
-        intake.old.turns intake.new.turns result }
+    ensures reports { ReportsAs post_fault_of stream.old stream.new result }
 {
     let mut lines = [EMPTY_HEADER_SPAN; MAX_LINES];
     let mut heads = MAX_HEADS;
     while heads > 0 {
         heads -= 1;
-        move_to_front(out, &mut intake.held);
-        match find_head::<ResponseSpans, _>(r, out, intake, &mut lines, manner)? {
+        move_to_front(stream.room, &mut stream.held);
+        match find_head::<ResponseSpans, _>(stream, &mut lines)? {
             Offered::Partial => return Err(PostFault::Cut),
             Offered::Malformed => return Err(PostFault::Head),
             Offered::Whole(spans) => {
-                intake.held.from = spans.len;
+                stream.held.from = spans.len;
                 if !is_interim(spans.code) {
-                    let fields = lines_in(&out[..spans.len], &lines, spans);
+                    let fields = lines_in(stream.front(spans.len), &lines, spans);
                     return match framing_in(spans.code, spans.version, fields) {
-                        Ok(framing) => read_framed(r, out, intake, framing, manner),
+                        Ok(framing) => read_framed(stream, framing),
                         Err(fault) => Err(fault),
                     };
                 }
@@ -263,27 +249,21 @@ fn sized_by(text: &[u8]) -> Result<AnswerFraming, PostFault>
 
 // Reads a body that is framed so, of which some bytes are held in the room.
 fn read_framed<R: Source>(
-    r: &mut R,
-    out: &mut [u8],
-    intake: &mut Intake,
+    stream: &mut Stream<'_, '_, R>,
     framing: AnswerFraming,
-    manner: Manner,
 ) -> Result<usize, PostFault>
-    requires room { max_peer_answer ≤ length out.old }
-    requires lies { LiesBehind 0 out.old intake.old.held }
+    requires room { max_peer_answer ≤ length stream.old.room.now }
+    requires none { stream.old.done ≡ 0 }
     requires fits { FitsAnswer framing }
-    requires unfailed { R.failure_count r.old ≤ manner.before }
-    ensures gives { GivesAs framing (held_in out.old intake.old.held) (R.remaining r.old) result out.new }
+    ensures gives { GivesAs framing (held_of stream.old) (to_come stream.old) result stream.new.room.now }
     ensures bound { IfOk result (λ n. n ≤ max_peer_answer) }
-    ensures len { length out.new ≡ length out.old }
-    ensures told { TellsReadsAs post_fault_of R.failure_count R.was_read manner.before r.old r.new
-        intake.old.turns intake.new.turns result }
+    ensures reports { ReportsAs post_fault_of stream.old stream.new result }
 {
     let framing = match framing {
         AnswerFraming::Framed(framing) => framing,
-        AnswerFraming::ToEnd => return read_to_end(r, out, intake, manner),
+        AnswerFraming::ToEnd => return read_to_end(stream),
     };
-    match read_body(r, out, intake, framing, manner)? {
+    match read_body(stream, framing)? {
         BodyRead::Whole(n) => Ok(n),
         BodyRead::Cut => Err(PostFault::Cut),
         BodyRead::Bad(BodyFault::Malformed) => Err(PostFault::Unframed),
@@ -292,35 +272,20 @@ fn read_framed<R: Source>(
 }
 
 // Reads a body that goes to the end of the stream.
-fn read_to_end<R: Source>(
-    r: &mut R,
-    out: &mut [u8],
-    intake: &mut Intake,
-    manner: Manner,
-) -> Result<usize, PostFault>
-    requires room { max_peer_answer ≤ length out.old }
-    requires lies { LiesBehind 0 out.old intake.old.held }
-    requires unfailed { R.failure_count r.old ≤ manner.before }
-    ensures gives { GivesAs AnswerFraming.ToEnd (held_in out.old intake.old.held) (R.remaining r.old) result out.new }
+fn read_to_end<R: Source>(stream: &mut Stream<'_, '_, R>) -> Result<usize, PostFault>
+    requires room { max_peer_answer ≤ length stream.old.room.now }
+    requires none { stream.old.done ≡ 0 }
+    ensures gives { GivesAs AnswerFraming.ToEnd (held_of stream.old) (to_come stream.old) result stream.new.room.now }
     ensures bound { IfOk result (λ n. n ≤ max_peer_answer) }
-    ensures len { length out.new ≡ length out.old }
-    ensures told { TellsReadsAs post_fault_of R.failure_count R.was_read manner.before r.old r.new
-        intake.old.turns intake.new.turns result }
+    ensures reports { ReportsAs post_fault_of stream.old stream.new result }
 {
-    move_to_front(out, &mut intake.held);
-    let had = intake.held.to;
-    let n = read_on(
-        r,
-        out,
-        had,
-        MAX_PEER_ANSWER,
-        manner.before,
-        &mut intake.turns,
-    )?;
+    move_to_front(stream.room, &mut stream.held);
+    let had = stream.held.to;
+    let n = stream.read_on(had, MAX_PEER_ANSWER)?;
     if n > MAX_PEER_ANSWER {
         return Err(PostFault::Size);
     }
-    if n < MAX_PEER_ANSWER || has_ended(r, manner.before, &mut intake.turns)? {
+    if n < MAX_PEER_ANSWER || stream.has_ended()? {
         return Ok(n);
     }
     Err(PostFault::Size)

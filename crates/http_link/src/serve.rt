@@ -5,17 +5,17 @@ ghost use Rattle.std.specs.Io.KnownBytes.{Appends};
 ghost use Rattle.httparse.specs.Grammar as grammar;
 ghost use Rattle.httparse.specs.Spans.{IsRequestWithin};
 ghost use Rattle.http_link.specs.Connections.{IsCutBehind};
-ghost use Rattle.http_link.specs.Counts.{MadeAll, Spends};
+ghost use Rattle.http_link.specs.Counts.{MadeAll};
 ghost use Rattle.http_link.specs.Telling.{TellsFailures, TellsWrites};
 ghost use Rattle.http_link.specs.Bodies.{IsBody, cut, most_of, body_status};
-ghost use Rattle.http_link.specs.BodyReading.{LiesBehind, ReadsNoFurther};
 ghost use Rattle.http_link.specs.Heads.{BeginsWith, head_of};
 ghost use Rattle.http_link.specs.Lines.{head_at, head_in, wanted_at};
 ghost use Rattle.http_link.specs.Requests.{closes, waits, wanted_of};
 ghost use Rattle.http_link.specs.Answers.{refusal_text, continue_text, answer_text, told_body};
 ghost use Rattle.http_link.specs.Serving.{IsServed, IsAskedOnly, AsksAtMostOnce, WritesNothingOr400};
 ghost use Rattle.http_link.specs.Serving.{asking, kept_unless, traces_of};
-ghost use Rattle.http_link.specs.Running.{RunsOnHead, AsksWanted, held_in};
+ghost use Rattle.http_link.specs.Running.{RunsOnHead, AsksWanted};
+ghost use Rattle.http_link.specs.StreamCalls.{Continues, ReadsNoFurther, held_of, to_come};
 ghost use Rattle.http_link.specs.Limits.{max_body};
 
 use crate::answer::{put_answer_head, status_told};
@@ -24,10 +24,12 @@ use crate::devices::{Sink, Source};
 use crate::fields::Lines;
 use crate::grammar::Offered;
 use crate::head::{MAX_HEAD, MAX_LINES, find_head};
-use crate::intake::{Intake, Manner, NOTHING, Reach};
+use crate::held::NOTHING;
+use crate::intake::Reach;
 use crate::line_buffer::{LineBuffer, write_message};
 use crate::request::{RequestHead, RequestKind, Wanted, wanted_of};
 use crate::service::Service;
+use crate::stream::Stream;
 use crate::streams::{LinkFault, write_all};
 use httparse::spans::{EMPTY_HEADER_SPAN, HeaderSpan, RequestSpans};
 
@@ -40,30 +42,6 @@ pub enum Served {
     Closed,
     /// The stream ended before a whole request, and no answer was written.
     Ended,
-}
-
-/// How the stream of a request is read, and how often the writer had failed before it.
-#[derive(Clone, Copy)]
-pub(crate) struct Before {
-    pub(crate) manner: Manner,
-    pub(crate) writes: u64,
-}
-
-impl Before {
-    /// For one request only: nothing that follows it is taken from the reader.
-    pub(crate) fn one<R: Source, W: Sink>(r: &R, w: &W) -> Before
-        ensures reach { result.manner.reach ≡ Reach.Needed }
-        ensures reads { result.manner.before ≡ R.failure_count r.now }
-        ensures writes { result.writes ≡ W.failure_count w.now }
-    {
-        Before {
-            manner: Manner {
-                reach: Reach::Needed,
-                before: r.failures(),
-            },
-            writes: w.failures(),
-        }
-    }
 }
 
 /// A request that nothing refuses: what it asks for, and its head, of which contracts speak.
@@ -127,17 +105,18 @@ pub fn serve_one<R: Source, W: Sink, S: Service>(
     ensures turns { result ≡ Err LinkFault.Turns
         → MadeAll R.was_read r.old r.new ⊎ MadeAll W.was_written w.old w.new }
 {
-    let before = Before::one(r, w);
-    let mut intake = NOTHING;
+    let before = w.failures();
     let mut text = [0u8; MAX_HEAD];
     let mut lines = [EMPTY_HEADER_SPAN; MAX_LINES];
-    match find_head::<RequestSpans, _>(r, &mut text, &mut intake, &mut lines, before.manner)? {
+    let mut stream = Stream::new(r, room, Reach::Needed);
+    match find_head::<RequestSpans, _>(&mut stream, &mut lines)? {
         Offered::Partial => Ok(Served::Ended),
-        Offered::Malformed => refuse(w, 400, before.writes),
+        Offered::Malformed => refuse(w, 400, before),
         Offered::Whole(spans) => {
-            let head = head_in(&text[..spans.len], &lines, spans);
-            intake.held = NOTHING.held;
-            serve_head(r, w, service, room, &mut intake, &head, before)
+            stream.copy_front(spans.len, &mut text);
+            stream.held = NOTHING;
+            let head = &text[..spans.len];
+            serve_head(&mut stream, w, service, head, &lines, spans, before)
         }
     }
 }
@@ -175,86 +154,78 @@ pub(crate) fn refuse<W: Sink>(w: &mut W, status: u16, before: u64) -> Result<Ser
     Ok(Served::Closed)
 }
 
-/// Serves a request after its head. The bytes that came with the head are held in the buffer. At the end those are
-/// held that follow the request.
+/// Serves a request after its head, of which that is the text. The bytes that came with the head are held in the room. At
+/// the end those are held that follow the request.
 pub(crate) fn serve_head<R: Source, W: Sink, S: Service>(
-    r: &mut R,
+    stream: &mut Stream<'_, '_, R>,
     w: &mut W,
     service: &mut S,
-    room: &mut [u8],
-    intake: &mut Intake,
-    head: &RequestHead,
-    before: Before,
+    text: &[u8],
+    lines: &[HeaderSpan],
+    spans: RequestSpans,
+    before: u64,
 ) -> Result<Served, LinkFault>
-    requires room { max_body ≤ length room.old }
-    requires lies { LiesBehind 0 room.old intake.old.held }
-    requires reads { R.failure_count r.old ≤ before.manner.before }
-    requires writes { W.failure_count w.old ≤ before.writes }
-    ensures len { length room.new ≡ length room.old }
-    ensures lies { LiesBehind 0 room.new intake.new.held }
-    ensures runs { IfOk result (RunsOnHead (wanted_of (S.tenant_of service.old) (head_at head.now)) (head_at head.now)
-        (held_in room.old intake.old.held) (R.remaining r.old) (R.remaining r.new) (traces_of (service.new ≡ service.old)
-        (λ question. S.asks service.old question service.new) (S.answer service.new) (Some (held_in room.new intake.new.held))
+    requires room { max_body ≤ length stream.old.room.now }
+    requires none { stream.old.done ≡ 0 }
+    requires within { IsRequestWithin text.now lines.now spans }
+    requires unfailed { W.failure_count w.old ≤ before }
+    ensures runs { IfOk result (RunsOnHead (wanted_of (S.tenant_of service.old) (head_in text.now lines.now spans)) (head_in text.now lines.now spans)
+        (held_of stream.old) (to_come stream.old) (to_come stream.new) (traces_of (service.new ≡ service.old)
+        (λ question. S.asks service.old question service.new) (S.answer service.new) (Some (held_of stream.new))
         (λ text. Appends (W.contents w.old) (W.contents w.new) text))) }
-    ensures asks { AsksWanted (wanted_of (S.tenant_of service.old) (head_at head.now)) (held_in room.old intake.old.held)
-        (R.remaining r.old) (R.remaining r.new) (service.new ≡ service.old) (λ question. S.asks service.old question service.new) }
+    ensures asks { AsksWanted (wanted_of (S.tenant_of service.old) (head_in text.now lines.now spans)) (held_of stream.old)
+        (to_come stream.old) (to_come stream.new) (service.new ≡ service.old) (λ question. S.asks service.old question service.new) }
     ensures unread { result ≡ Err LinkFault.Read → service.new ≡ service.old }
-    ensures at_once { (r.new ≡ r.old)
-        ⊎ IsCutBehind (wanted_of (S.tenant_of service.old) (head_at head.now)) (held_in room.old intake.old.held) }
-    ensures no_further { ReadsNoFurther before.manner.reach intake.old.held intake.new.held }
-    ensures failed { TellsFailures (before.manner.before < R.failure_count r.new) (before.writes < W.failure_count w.new) result }
-    ensures turns { result ≡ Err LinkFault.Turns
-        → Spends R.was_read r.old r.new intake.old.turns 0 ⊎ MadeAll W.was_written w.old w.new }
+    ensures at_once { (stream.new.reader.now ≡ stream.old.reader.now)
+        ⊎ IsCutBehind (wanted_of (S.tenant_of service.old) (head_in text.now lines.now spans)) (held_of stream.old) }
+    ensures exact { ReadsNoFurther stream.old stream.new }
+    ensures continues { Continues stream.old stream.new }
+    ensures failed { TellsFailures (stream.old.failures < stream.new.failures) (before < W.failure_count w.new) result }
+    ensures turns { result ≡ Err LinkFault.Turns → (stream.new.turns ≡ 0) ⊎ MadeAll W.was_written w.old w.new }
 {
-    match wanted_of(service, head) {
+    let head = head_in(text, lines, spans);
+    match wanted_of(service, &head) {
         Ok(wanted) => {
-            let request = Request {
-                head: *head,
-                wanted,
-            };
-            serve_wanted(r, w, service, room, intake, request, before)
+            let request = Request { head, wanted };
+            serve_wanted(stream, w, service, request, before)
         }
-        Err(status) => refuse(w, status, before.writes),
+        Err(status) => refuse(w, status, before),
     }
 }
 
 // Serves a request that nothing refuses.
 fn serve_wanted<R: Source, W: Sink, S: Service>(
-    r: &mut R,
+    stream: &mut Stream<'_, '_, R>,
     w: &mut W,
     service: &mut S,
-    room: &mut [u8],
-    intake: &mut Intake,
     request: Request<'_>,
-    before: Before,
+    before: u64,
 ) -> Result<Served, LinkFault>
-    requires size { most_of request.wanted.framing ≤ length room.old }
+    requires size { most_of request.wanted.framing ≤ length stream.old.room.now }
+    requires none { stream.old.done ≡ 0 }
     requires waits { request.wanted.waits ≡ waits (head_at request.head) }
     requires closes { request.wanted.closes ≡ closes (head_at request.head) }
-    requires lies { LiesBehind 0 room.old intake.old.held }
-    requires reads { R.failure_count r.old ≤ before.manner.before }
-    requires writes { W.failure_count w.old ≤ before.writes }
-    ensures len { length room.new ≡ length room.old }
-    ensures lies { LiesBehind 0 room.new intake.new.held }
+    requires unfailed { W.failure_count w.old ≤ before }
     ensures runs { IfOk result (RunsOnHead (Ok (wanted_at request.entry.wanted)) (head_at request.entry.head)
-        (held_in room.old intake.old.held) (R.remaining r.old) (R.remaining r.new) (traces_of (service.new ≡ service.old)
-        (λ question. S.asks service.old question service.new) (S.answer service.new) (Some (held_in room.new intake.new.held))
+        (held_of stream.old) (to_come stream.old) (to_come stream.new) (traces_of (service.new ≡ service.old)
+        (λ question. S.asks service.old question service.new) (S.answer service.new) (Some (held_of stream.new))
         (λ text. Appends (W.contents w.old) (W.contents w.new) text))) }
-    ensures asks { AsksWanted (Ok (wanted_at request.entry.wanted)) (held_in room.old intake.old.held) (R.remaining r.old)
-        (R.remaining r.new) (service.new ≡ service.old) (λ question. S.asks service.old question service.new) }
+    ensures asks { AsksWanted (Ok (wanted_at request.entry.wanted)) (held_of stream.old) (to_come stream.old) (to_come stream.new)
+        (service.new ≡ service.old) (λ question. S.asks service.old question service.new) }
     ensures unread { result ≡ Err LinkFault.Read → service.new ≡ service.old }
-    ensures at_once { (r.new ≡ r.old) ⊎ IsBody request.entry.wanted.framing (held_in room.old intake.old.held) cut }
-    ensures no_further { ReadsNoFurther before.manner.reach intake.old.held intake.new.held }
-    ensures failed { TellsFailures (before.manner.before < R.failure_count r.new) (before.writes < W.failure_count w.new) result }
-    ensures turns { result ≡ Err LinkFault.Turns
-        → Spends R.was_read r.old r.new intake.old.turns 0 ⊎ MadeAll W.was_written w.old w.new }
+    ensures at_once { (stream.new.reader.now ≡ stream.old.reader.now)
+        ⊎ IsBody request.entry.wanted.framing (held_of stream.old) cut }
+    ensures exact { ReadsNoFurther stream.old stream.new }
+    ensures continues { Continues stream.old stream.new }
+    ensures failed { TellsFailures (stream.old.failures < stream.new.failures) (before < W.failure_count w.new) result }
+    ensures turns { result ≡ Err LinkFault.Turns → (stream.new.turns ≡ 0) ⊎ MadeAll W.was_written w.old w.new }
 {
     let wanted = request.wanted;
-    write_all(w, continue_text(wanted.waits), before.writes)?;
-    match read_body(r, room, intake, wanted.framing, before.manner)? {
-        BodyRead::Whole(size) => answer(w, service, &wanted, &room[..size], before.writes),
+    write_all(w, continue_text(wanted.waits), before)?;
+    match read_body(stream, wanted.framing)? {
+        BodyRead::Whole(size) => answer(w, service, &wanted, stream.front(size), before),
         BodyRead::Cut => Ok(Served::Ended),
-        BodyRead::Bad(fault) => refuse(w, refusal_of(fault), before.writes),
+        BodyRead::Bad(fault) => refuse(w, refusal_of(fault), before),
     }
 }
 

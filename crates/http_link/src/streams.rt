@@ -4,7 +4,7 @@ ghost use Rattle.std.specs.Prelude.{◌≡◌, ◌≢◌, ◌↔◌, ◌<◌, �
 ghost use Rattle.std.specs.Io.KnownBytes.{Appends};
 ghost use Rattle.http_link.specs.Counts.{MadeMore, NoFewer};
 ghost use Rattle.http_link.specs.Telling.{TellsReads, TellsWrites};
-ghost use Rattle.http_link.specs.Streams.{AppendsFront, EndsOrNot, FillsOn, PullsNext, ReadsBehind};
+ghost use Rattle.http_link.specs.Streams.{AppendsFront, ReadsBehind};
 
 use crate::devices::{Sink, Source};
 use thiserror::Error;
@@ -78,65 +78,6 @@ pub(crate) fn fetch<R: Source>(
         }
     }
     Err(LinkFault::Turns)
-}
-
-/// Takes the next byte of the reader.
-pub(crate) fn fetch_one<R: Source>(
-    r: &mut R,
-    before: u64,
-    turns: &mut u32,
-) -> Result<Option<u8>, LinkFault>
-    requires unfailed { R.failure_count r.old ≤ before }
-    ensures pulled { IfOk result (PullsNext (R.remaining r.old) (R.remaining r.new)) }
-    ensures told { TellsReads R.failure_count R.was_read before r.old r.new turns.old turns.new result }
-{
-    let mut one = [0u8; 1];
-    if fetch(r, &mut one, 0, 1, before, turns)? == 0 {
-        return Ok(None);
-    }
-    Ok(Some(one[0]))
-}
-
-/// Reads until so many bytes are at the front of the buffer, which has some already, or until the stream has ended.
-/// Returns how many are there.
-pub(crate) fn read_on<R: Source>(
-    r: &mut R,
-    out: &mut [u8],
-    had: usize,
-    wanted: usize,
-    before: u64,
-    turns: &mut u32,
-) -> Result<usize, LinkFault>
-    requires there { had ≤ length out.old }
-    requires within { wanted ≤ length out.old }
-    requires unfailed { R.failure_count r.old ≤ before }
-    ensures filled { IfOk result (FillsOn (R.remaining r.old) (R.remaining r.new) (take had out.old) wanted out.new) }
-    ensures at_once { wanted ≤ had → r.new ≡ r.old }
-    ensures len { length out.new ≡ length out.old }
-    ensures told { TellsReads R.failure_count R.was_read before r.old r.new turns.old turns.new result }
-{
-    let mut done = had;
-    while done < wanted {
-        let n = fetch(r, out, done, wanted, before, turns)?;
-        if n == 0 {
-            return Ok(done);
-        }
-        done += n;
-    }
-    Ok(done)
-}
-
-/// Whether the stream has ended. One byte more is taken from it at most.
-pub(crate) fn has_ended<R: Source>(
-    r: &mut R,
-    before: u64,
-    turns: &mut u32,
-) -> Result<bool, LinkFault>
-    requires unfailed { R.failure_count r.old ≤ before }
-    ensures ended { IfOk result (EndsOrNot (R.remaining r.old)) }
-    ensures told { TellsReads R.failure_count R.was_read before r.old r.new turns.old turns.new result }
-{
-    Ok(fetch_one(r, before, turns)?.is_none())
 }
 
 // Writes once, and gives how many bytes were taken.

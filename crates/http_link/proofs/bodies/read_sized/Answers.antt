@@ -7,10 +7,10 @@ least size there le = omega arith
 
 pub returns-then-there-size-clause-reads : goal.returns-then-there-size-clause-reads
 returns-then-there-size-clause-reads g c =
-    sized_cut _ _ _ _ c.read_on.new.out c.used-intake.result c.args.size c.in_ok-there.there c.move_to_front.ensures.same c.in_ok-there.ensures.filled c.if-there-size.true
-    (rw c.used-intake.ensures (omega arith))
+    sized_cut _ _ _ _ c.read_on.new.self.room.now c.used-stream.result c.args.size c.in_ok-there.there c.move_to_front.ensures.same c.in_ok-there.ensures.filled c.if-there-size.true
+    (rw c.used-stream.ensures (omega arith))
 
 pub returns-clause-reads : goal.returns-clause-reads
 returns-clause-reads g c =
-    sized_whole _ _ _ _ c.read_on.new.out c.used-intake.result c.args.size c.in_ok-there.there c.move_to_front.ensures.same c.in_ok-there.ensures.filled c.if-there-size.false
-    (c.used-intake.ensures ∙ rw (least c.args.size c.in_ok-there.there c.if-there-size.false) refl)
+    sized_whole _ _ _ _ c.read_on.new.self.room.now c.used-stream.result c.args.size c.in_ok-there.there c.move_to_front.ensures.same c.in_ok-there.ensures.filled c.if-there-size.false
+    (c.used-stream.ensures ∙ rw (least c.args.size c.in_ok-there.there c.if-there-size.false) refl)

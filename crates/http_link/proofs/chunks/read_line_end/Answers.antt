@@ -2,7 +2,7 @@ use Rattle.std.proofs.Common.{◌≡◌, ◌∷◌, List, ℕ, [], Bool, false, 
 use Rattle.std.specs.Bool.{IsTrue}
 use Rattle.httparse.specs.Ascii.{crlf_bytes}
 use Rattle.http_link.specs.BodyReading.{Takes, TakesEveryByte}
-use Rattle.http_link.specs.Running.{held_in}
+use Rattle.http_link.specs.StreamCalls.{held_of, to_come}
 use Rattle.http_link.proofs.Heads.{not_both}
 use Rattle.http_link.proofs.Takes.{takes_all_then, takes_then}
 use Rattle.http_link.proofs.Sparing.{pair_spares}
@@ -10,9 +10,9 @@ use Rattle.http_link.proofs.chunks.read_line_end.Goals as goal
 
 pub returns-in_default-2-clause-taken : goal.returns-in_default-2-clause-taken
 returns-in_default-2-clause-taken g c =
-    let one : Takes (held_in c.args.room.now c.args.intake.now.held) (g.R.Read.remaining c.args.r.now) (g.R.Read.remaining c.next_byte.new.r) (c.in-Some.first ∷ []) (held_in c.next_byte.new.room c.next_byte.new.intake.held) =
+    let one : Takes (held_of c.args.stream.now) (to_come c.args.stream.now) (to_come c.next_byte.new.self) (c.in-Some.first ∷ []) (held_of c.next_byte.new.self) =
     rw c.in-Some.is at c.in_ok-first.ensures.taken in
-    let none : TakesEveryByte (held_in c.next_byte.new.room c.next_byte.new.intake.held) (g.R.Read.remaining c.next_byte.new.r) (g.R.Read.remaining c.next_byte-2.new.r) [] (held_in c.next_byte-2.new.room c.next_byte-2.new.intake.held) =
+    let none : TakesEveryByte (held_of c.next_byte.new.self) (to_come c.next_byte.new.self) (to_come c.next_byte-2.new.self) [] (held_of c.next_byte-2.new.self) =
     rw c.in_default-2.is at c.in_ok-second.ensures.taken in
     (c.in-Some.first ∷ [], omega arith, takes_all_then _ _ _ _ (c.in-Some.first ∷ []) [] _ _ one none)
 
@@ -23,7 +23,7 @@ both had old mid new between has first second one two = takes_then had old mid n
 
 pub returns-then-is_line_end-clause-taken : goal.returns-then-is_line_end-clause-taken
 returns-then-is_line_end-clause-taken g c =
-    subst (λ (two : List ℕ). Takes (held_in c.args.room.now c.args.intake.now.held) (g.R.Read.remaining c.args.r.now) (g.R.Read.remaining c.next_byte-2.new.r) two (held_in c.next_byte-2.new.room c.next_byte-2.new.intake.held)) (c.is_line_end.ensures.0 c.if-is_line_end.true)
+    subst (λ (two : List ℕ). Takes (held_of c.args.stream.now) (to_come c.args.stream.now) (to_come c.next_byte-2.new.self) two (held_of c.next_byte-2.new.self)) (c.is_line_end.ensures.0 c.if-is_line_end.true)
     (both _ _ _ _ _ _ c.in-Some.first c.in-Some-2.second (rw c.in-Some.is at c.in_ok-first.ensures.taken) (rw c.in-Some-2.is at c.in_ok-second.ensures.taken))
 
 -- and they are none
@@ -40,7 +40,7 @@ returns-clause-taken g c = (
 
 pub returns-clause-at_once : goal.returns-clause-at_once
 returns-clause-at_once g c =
-    pair_spares c.args.r.now c.next_byte.new.r c.next_byte-2.new.r _ _ _ c.in-Some.first c.in-Some-2.second
+    pair_spares c.args.stream.now.reader.now c.next_byte.new.self.reader.now c.next_byte-2.new.self.reader.now _ _ _ c.in-Some.first c.in-Some-2.second
     (rw c.in-Some.is at c.in_ok-first.ensures.at_once) (rw c.in-Some-2.is at c.in_ok-second.ensures.at_once)
     (λ takes. (
       c.in-Some.first ∷ c.in-Some-2.second ∷ [],

@@ -1,8 +1,13 @@
-use Rattle.std.proofs.Common.{refl, arith, rules, inl, inr}
+use Rattle.std.proofs.Common.{◌≡◌, ◌↔◌, ◌<◌, Err, IfOk, ◌⊎◌, ap, subst, refl, arith, rules, inl, inr}
 use Rattle.http_link.specs.Limits.{max_turns}
 use Rattle.http_link.specs.Heads.{head_of}
 use Rattle.http_link.specs.Lines.{head_at}
-use Rattle.http_link.specs.OperatorDoor.{admitted, operator_sought_of}
+use Rattle.http_link.specs.OperatorDoor.{AsksOperatorCame, IsOperatorServed, admitted, operator_sought_of}
+use Rattle.http_link.specs.StreamCalls.{to_come}
+use Rattle.http_link.specs.Counts.{MadeAll, MadeMore}
+use Rattle.std.specs.Io.KnownBytes.{Appends}
+use Rattle.http_link.specs.declared.streams.LinkFault.TheVariants.{Read}
+use Rattle.http_link.proofs.Reported.{failed_since, found_fresh}
 use Rattle.http_link.proofs.Counting.{spent_all, spent_in_two}
 use Rattle.http_link.proofs.OperatorServing.{operator_came, operator_only, operator_served, unasked_only}
 use Rattle.http_link.proofs.Serving.{found_here, malformed_first, none_here, partial_first}
@@ -10,45 +15,61 @@ use Rattle.http_link.proofs.operator_serve.serve_operator.Goals as goal
 
 pub returns-in-Partial-clause-exact : goal.returns-in-Partial-clause-exact
 returns-in-Partial-clause-exact g c stream head rest e begins =
-    absurd (partial_first _ _ _ stream c.find_head.new.lines head rest (omega arith) (rw c.in-Partial.is at c.in_ok-find_head.ensures.found) e begins)
+    absurd (partial_first _ _ _ stream c.find_head.new.lines head rest (omega arith) (found_fresh _ _ _ _ _ _ _ _ _ _ c.new-stream.ensures.fresh.2 (ap g.R.Read.remaining c.new-stream.ensures.reader.1) refl (rw c.in-Partial.is at c.in_ok-find_head.ensures.found)) e begins)
 
 pub returns-in-Malformed-clause-exact : goal.returns-in-Malformed-clause-exact
 returns-in-Malformed-clause-exact g c stream head rest e begins =
-    absurd (malformed_first _ _ _ stream c.find_head.new.lines head rest (omega arith) (rw c.in-Malformed.is at c.in_ok-find_head.ensures.found) e begins)
+    absurd (malformed_first _ _ _ stream c.find_head.new.lines head rest (omega arith) (found_fresh _ _ _ _ _ _ _ _ _ _ c.new-stream.ensures.fresh.2 (ap g.R.Read.remaining c.new-stream.ensures.reader.1) refl (rw c.in-Malformed.is at c.in_ok-find_head.ensures.found)) e begins)
 
 pub returns-in-Whole-clause-exact : goal.returns-in-Whole-clause-exact
 returns-in-Whole-clause-exact g c stream head rest e begins =
-    operator_served (g.S.OperatorService.refusal c.args.service.now) c.serve_after_head.result (head_at c.head_in-head.result) (g.R.Read.remaining c.find_head.new.r) (g.R.Read.remaining c.serve_after_head.new.r) _ head rest refl
-    (found_here (head_at c.head_in-head.result) _ _ c.find_head.new.room stream c.find_head.new.intake.held.to c.find_head.new.lines c.in-Whole.spans head rest (omega arith) c.find_head.ensures.there
-    (rw c.in-Whole.is at c.in_ok-find_head.ensures.exact c.one-before.ensures.reach refl) (rw c.in-Whole.is at c.in_ok-find_head.ensures.found)
-    c.head_in-head.ensures e begins) c.serve_after_head.ensures.runs
+    subst
+    (λ r. IfOk c.serve_after_head.result (IsOperatorServed (admitted (g.S.OperatorService.refusal c.args.service.now) (operator_sought_of (head_of head))) (head_of head) rest (record {
+      Unasked = c.serve_after_head.new.service ≡ c.args.service.now;
+      Asks = λ question. g.S.OperatorService.asks c.args.service.now question c.serve_after_head.new.service;
+      answer = g.S.OperatorService.answer c.serve_after_head.new.service;
+      left = g.R.Read.remaining r;
+      Writes = λ text. Appends (g.W.Write.contents c.args.w.now) (g.W.Write.contents c.serve_after_head.new.w) text;
+    })))
+    (search rules)
+    (operator_served (g.S.OperatorService.refusal c.args.service.now) c.serve_after_head.result (head_at c.head_in-head.result) (to_come c.find_head.new.stream) (to_come c.serve_after_head.new.stream) _ head rest refl
+    (found_here (head_at c.head_in-head.result) _ _ c.find_head.new.stream.room.now stream c.find_head.new.stream.held.to c.find_head.new.lines c.in-Whole.spans head rest (omega arith) c.find_head.new.stream.lies.2
+    (rw c.in-Whole.is at c.in_ok-find_head.ensures.exact c.new-stream.ensures.reach (omega arith)) (found_fresh _ _ _ _ _ _ _ _ _ _ c.new-stream.ensures.fresh.2 (ap g.R.Read.remaining c.new-stream.ensures.reader.1) refl (rw c.in-Whole.is at c.in_ok-find_head.ensures.found))
+    (rw c.copy_front.ensures.copied at c.head_in-head.ensures) e begins) c.serve_after_head.ensures.runs)
 
 pub returns-in-Whole-clause-asked_only : goal.returns-in-Whole-clause-asked_only
 returns-in-Whole-clause-asked_only g c stream head rest e begins =
-    operator_only (g.S.OperatorService.refusal c.args.service.now) (head_at c.head_in-head.result) (g.R.Read.remaining c.find_head.new.r) (g.R.Read.remaining c.serve_after_head.new.r) _ _ head rest
-    (found_here (head_at c.head_in-head.result) _ _ c.find_head.new.room stream c.find_head.new.intake.held.to c.find_head.new.lines c.in-Whole.spans head rest (omega arith) c.find_head.ensures.there
-    (rw c.in-Whole.is at c.in_ok-find_head.ensures.exact c.one-before.ensures.reach refl) (rw c.in-Whole.is at c.in_ok-find_head.ensures.found)
-    c.head_in-head.ensures e begins) c.serve_after_head.ensures.asks
+    operator_only (g.S.OperatorService.refusal c.args.service.now) (head_at c.head_in-head.result) (to_come c.find_head.new.stream) (to_come c.serve_after_head.new.stream) _ _ head rest
+    (found_here (head_at c.head_in-head.result) _ _ c.find_head.new.stream.room.now stream c.find_head.new.stream.held.to c.find_head.new.lines c.in-Whole.spans head rest (omega arith) c.find_head.new.stream.lies.2
+    (rw c.in-Whole.is at c.in_ok-find_head.ensures.exact c.new-stream.ensures.reach (omega arith)) (found_fresh _ _ _ _ _ _ _ _ _ _ c.new-stream.ensures.fresh.2 (ap g.R.Read.remaining c.new-stream.ensures.reader.1) refl (rw c.in-Whole.is at c.in_ok-find_head.ensures.found))
+    (rw c.copy_front.ensures.copied at c.head_in-head.ensures) e begins) c.serve_after_head.ensures.asks
 
 pub returns-in-Whole-clause-turned_away : goal.returns-in-Whole-clause-turned_away
 returns-in-Whole-clause-turned_away g c stream e none =
-    absurd (none_here _ _ c.find_head.new.room stream c.find_head.new.intake.held.to c.find_head.new.lines c.in-Whole.spans (omega arith) c.find_head.ensures.there
-    (rw c.in-Whole.is at c.in_ok-find_head.ensures.exact c.one-before.ensures.reach refl) (rw c.in-Whole.is at c.in_ok-find_head.ensures.found) e none)
+    absurd (none_here _ _ c.find_head.new.stream.room.now stream c.find_head.new.stream.held.to c.find_head.new.lines c.in-Whole.spans (omega arith) c.find_head.new.stream.lies.2
+    (rw c.in-Whole.is at c.in_ok-find_head.ensures.exact c.new-stream.ensures.reach (omega arith)) (found_fresh _ _ _ _ _ _ _ _ _ _ c.new-stream.ensures.fresh.2 (ap g.R.Read.remaining c.new-stream.ensures.reader.1) refl (rw c.in-Whole.is at c.in_ok-find_head.ensures.found)) e none)
 
 pub returns-in-Whole-clause-asked_once : goal.returns-in-Whole-clause-asked_once
 returns-in-Whole-clause-asked_once g c =
-    operator_came (g.S.OperatorService.refusal c.args.service.now) (head_at c.head_in-head.result) _ _ _ c.find_head.new.room c.find_head.new.intake.held.to c.find_head.new.lines c.in-Whole.spans _ _ (omega arith) c.find_head.ensures.there
-    (rw c.in-Whole.is at c.in_ok-find_head.ensures.exact c.one-before.ensures.reach refl) (rw c.in-Whole.is at c.in_ok-find_head.ensures.found)
-    c.head_in-head.ensures c.serve_after_head.ensures.asks
+    subst
+    (λ r. (c.serve_after_head.new.service ≡ c.args.service.now) ⊎ AsksOperatorCame (g.S.OperatorService.refusal c.args.service.now) (g.R.Read.remaining c.args.r.now) (g.R.Read.remaining r)
+    (λ question. g.S.OperatorService.asks c.args.service.now question c.serve_after_head.new.service))
+    (search rules)
+    (operator_came (g.S.OperatorService.refusal c.args.service.now) (head_at c.head_in-head.result) _ _ _ c.find_head.new.stream.room.now c.find_head.new.stream.held.to c.find_head.new.lines c.in-Whole.spans _ _ (omega arith) c.find_head.new.stream.lies.2
+    (rw c.in-Whole.is at c.in_ok-find_head.ensures.exact c.new-stream.ensures.reach (omega arith)) (found_fresh _ _ _ _ _ _ _ _ _ _ c.new-stream.ensures.fresh.2 (ap g.R.Read.remaining c.new-stream.ensures.reader.1) refl (rw c.in-Whole.is at c.in_ok-find_head.ensures.found))
+    (rw c.copy_front.ensures.copied at c.head_in-head.ensures) c.serve_after_head.ensures.asks)
 
 pub returns-in_err-find_head-clause-turns : goal.returns-in_err-find_head-clause-turns
 returns-in_err-find_head-clause-turns g c told =
-    inl (spent_all g.R.Source.was_read c.args.r.now c.find_head.new.r max_turns c.find_head.new.intake.turns c.find_head.ensures.told.made (search rules))
+    let made : MadeMore g.R.Source.was_read c.args.r.now c.find_head.new.stream.reader.now max_turns = spent_all g.R.Source.was_read c.args.r.now c.find_head.new.stream.reader.now max_turns c.find_head.new.stream.turns (search rules) (search rules) in
+    inl (subst (λ r. MadeMore g.R.Source.was_read c.args.r.now r max_turns) (search rules) made)
 
 pub returns-in-Whole-clause-turns : goal.returns-in-Whole-clause-turns
 returns-in-Whole-clause-turns g c told =
-    spent_in_two g.R.Source.was_read c.args.r.now c.find_head.new.r c.serve_after_head.new.r max_turns c.find_head.new.intake.turns
-    c.find_head.ensures.told.made (c.serve_after_head.ensures.turns told)
+    let made : MadeMore g.R.Source.was_read c.args.r.now c.serve_after_head.new.stream.reader.now max_turns ⊎ MadeAll g.W.Sink.was_written c.args.w.now c.serve_after_head.new.w =
+    spent_in_two g.R.Source.was_read c.args.r.now c.find_head.new.stream.reader.now c.serve_after_head.new.stream.reader.now max_turns c.find_head.new.stream.turns c.serve_after_head.new.stream.turns
+    (search rules) (search rules) (c.serve_after_head.ensures.turns told) in
+    subst (λ r. MadeMore g.R.Source.was_read c.args.r.now r max_turns ⊎ MadeAll g.W.Sink.was_written c.args.w.now c.serve_after_head.new.w) (search rules) made
 
 pub returns-in-Malformed-clause-turns : goal.returns-in-Malformed-clause-turns
 returns-in-Malformed-clause-turns g c told = inr (c.refuse.ensures.told.turns told)
@@ -58,3 +79,14 @@ returns-in-Partial-clause-asked_only g c stream head rest e begins = unasked_onl
 
 pub returns-in-Malformed-clause-asked_only : goal.returns-in-Malformed-clause-asked_only
 returns-in-Malformed-clause-asked_only g c stream head rest e begins = unasked_only (admitted (g.S.OperatorService.refusal c.args.service.now) (operator_sought_of (head_of head))) rest _ _ refl
+
+pub returns-in-Whole-clause-read : goal.returns-in-Whole-clause-read
+returns-in-Whole-clause-read g c =
+    let count = g.R.Device.failure_count in
+    let same : c.find_head.new.stream.failures ≡ count c.args.r.now = search rules in
+    subst (λ r. (c.serve_after_head.result ≡ Err Read) ↔ (count c.args.r.now < count r)) (search rules)
+    (failed_since (count c.args.r.now) c.find_head.new.stream.failures c.serve_after_head.new.stream.failures (count c.serve_after_head.new.stream.reader.now) same
+    c.serve_after_head.ensures.failed.0 c.serve_after_head.new.stream.unfailed c.serve_after_head.ensures.continues.exact)
+
+pub returns-in_err-find_head-clause-asked_only : goal.returns-in_err-find_head-clause-asked_only
+returns-in_err-find_head-clause-asked_only g c stream head rest e begins = unasked_only (admitted (g.S.OperatorService.refusal c.args.service.now) (operator_sought_of (head_of head))) rest _ _ refl
