@@ -1,8 +1,8 @@
 -- What calls on a stream leave of it, and the faults that they report.
-use Rattle.std.specs.Prelude.{◌≡◌, ◌≢◌, ◌↔◌, ◌<◌, ◌≤◌, ℕ, List, length, Option, Result, Err}
+use Rattle.std.specs.Prelude.{◌≡◌, ◌≢◌, ◌↔◌, ◌<◌, ◌≤◌, ◌⊎◌, ℕ, List, length, take, Option, Result, Err, IfOk}
 use Rattle.std.specs.declared.io.traits.Read as read
 use Rattle.oer_core.specs.declared.device.Device as device
-use Rattle.http_link.specs.Counts.{Spends}
+use Rattle.http_link.specs.Counts.{MadeAll, Spends}
 use Rattle.http_link.specs.Running.{held_in}
 use Rattle.http_link.specs.declared.devices.Source as source
 use Rattle.http_link.specs.declared.intake.Reach.TheVariants.{Needed}
@@ -45,3 +45,16 @@ Reports = ReportsAs (λ fault. fault)
 -- if no more is taken than is needed, and nothing was held, then nothing is held
 abbrev pub ReadsNoFurther : {R : Type 0} → {S : source.Ghosts R} → {D : read.Ghosts R} → {F : device.Ghosts R} → (old new : Stream R S D F) → Type 0
 ReadsNoFurther old new = old.reach ≡ Needed → old.held.to ≤ old.held.from → new.held.to ≤ new.held.from
+
+-- the bytes of a body that are done stay as they are
+abbrev pub KeepsBody : {R X E : Type 0} → {S : source.Ghosts R} → {D : read.Ghosts R} → {F : device.Ghosts R} → (old new : Stream R S D F) → Result X E → Type 0
+KeepsBody old new result = (new.done ≡ old.done) × IfOk result (λ given. take old.done new.room.now ≡ take old.done old.room.now)
+
+-- The faults of a call that reads a stream and writes to a writer, which had failed `before` times.
+pub record ReportsBoth {R W X : Type 0} {S : source.Ghosts R} {D : read.Ghosts R} {F : device.Ghosts R} (failures : W → ℕ) (Made : W → ℕ → Type 0) (before : ℕ) (was now : W) (old new : Stream R S D F) (result : Result X LinkFault) : Type 0 where
+  pub continues : Continues old new
+  -- A failed read or write is reported exactly if its device has failed.
+  pub read : (result ≡ Err Read) ↔ (old.failures < new.failures)
+  pub write : (result ≡ Err Write) ↔ (before < failures now)
+  -- The limit is reported only if it was reached.
+  pub turns : result ≡ Err Turns → (new.turns ≡ 0) ⊎ MadeAll Made was now

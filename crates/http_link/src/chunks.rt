@@ -8,7 +8,7 @@ ghost use Rattle.http_link.specs.BodyReading.{AreTrailersIn, IsStatedIn, LiesBeh
 ghost use Rattle.http_link.specs.BodyReading.{TakesBytes, TakesChunk, TakesEnd, TakesLast, TakesSize, TakesStep};
 ghost use Rattle.http_link.specs.BodyReading.{StepsTo, no_more, step_after};
 ghost use Rattle.http_link.specs.Running.{held_in};
-ghost use Rattle.http_link.specs.StreamCalls.{ReadsNoFurther, Reports, held_of, to_come};
+ghost use Rattle.http_link.specs.StreamCalls.{KeepsBody, ReadsNoFurther, Reports, held_of, to_come};
 
 use crate::bodies::{BodyFault, BodyRead};
 use crate::devices::Source;
@@ -105,8 +105,7 @@ fn read_step<R: Source>(stream: &mut Stream<'_, '_, R>, most: usize) -> Result<S
 
 // Reads the line of a chunk.
 fn read_size<R: Source>(stream: &mut Stream<'_, '_, R>) -> Result<Stated, LinkFault>
-    ensures kept { IfOk result (λ given. take stream.old.done stream.new.room.now ≡ take stream.old.done stream.old.room.now) }
-    ensures done { stream.new.done ≡ stream.old.done }
+    ensures kept { KeepsBody stream.old stream.new result }
     ensures taken { IfOk result (TakesSize (held_of stream.old) (to_come stream.old) (to_come stream.new) (held_of stream.new)) }
     ensures at_once { ReadsOnlyFor stream.old.reader.now stream.new.reader.now result
         (TakesSize (held_of stream.old) no_more no_more (held_of stream.new)) (BeginsNothing ends_line max_chunk_line (held_of stream.old)) }
@@ -218,8 +217,7 @@ fn move_bytes(room: &mut [u8], held: &mut Held, done: usize, size: usize) -> usi
 
 // Reads the line end after a chunk.
 fn read_line_end<R: Source>(stream: &mut Stream<'_, '_, R>) -> Result<Checked, LinkFault>
-    ensures kept { IfOk result (λ given. take stream.old.done stream.new.room.now ≡ take stream.old.done stream.old.room.now) }
-    ensures done { stream.new.done ≡ stream.old.done }
+    ensures kept { KeepsBody stream.old stream.new result }
     ensures taken { IfOk result (TakesEnd (held_of stream.old) (to_come stream.old) (to_come stream.new) (held_of stream.new)) }
     ensures at_once { ReadsOnlyFor stream.old.reader.now stream.new.reader.now result
         (TakesEnd (held_of stream.old) no_more no_more (held_of stream.new)) (length (held_of stream.old) < 2) }

@@ -2,7 +2,6 @@
 
 ghost use Rattle.std.specs.Prelude.{◌≡◌, ◌≢◌, ◌↔◌, ◌+◌, ◌<◌, ◌≤◌, ◌⊎◌, List, [], ℕ, length, take, drop, Some, Ok, Err, IfOk};
 ghost use Rattle.std.specs.Io.KnownBytes.{Appends};
-ghost use Rattle.http_link.specs.Telling.{TellsFailures};
 ghost use Rattle.http_link.specs.Counts.{MadeAll};
 ghost use Rattle.http_link.specs.Connections.{AreTooFew, AsksNext, IsCutBehind, ServesNext};
 ghost use Rattle.http_link.specs.Lines.{head_in};
@@ -10,7 +9,7 @@ ghost use Rattle.http_link.specs.Grammars.{IsRequest};
 ghost use Rattle.http_link.specs.Requests.{wanted_of};
 ghost use Rattle.http_link.specs.Running.{AsksWanted, RunsOnHead};
 ghost use Rattle.http_link.specs.Limits.{max_body, max_lines, max_request};
-ghost use Rattle.http_link.specs.StreamCalls.{Continues, held_of, to_come};
+ghost use Rattle.http_link.specs.StreamCalls.{ReportsBoth, held_of, to_come};
 
 use crate::devices::{Sink, Source};
 use crate::grammar::Offered;
@@ -165,9 +164,7 @@ fn serve_held<R: Source, W: Sink, S: Service>(
     ensures at_once { (stream.new.reader.now ≡ stream.old.reader.now)
         ⊎ AreTooFew (S.tenant_of service.old) (take stream.old.held.to stream.old.room.now) }
     ensures unread { result ≡ Err LinkFault.Read → service.new ≡ service.old }
-    ensures continues { Continues stream.old stream.new }
-    ensures failed { TellsFailures (stream.old.failures < stream.new.failures) (before < W.failure_count w.new) result }
-    ensures turns { result ≡ Err LinkFault.Turns → (stream.new.turns ≡ 0) ⊎ MadeAll W.was_written w.old w.new }
+    ensures reports { ReportsBoth W.failure_count W.was_written before w.old w.new stream.old stream.new result }
 {
     match find_head::<RequestSpans, _>(stream, lines)? {
         Offered::Partial => Ok(Served::Ended),
@@ -214,9 +211,7 @@ fn serve_found<R: Source, W: Sink, S: Service>(
         ⊎ IsCutBehind (wanted_of (S.tenant_of service.old) (head_in (take parsed.entry.spans.len stream.old.room.now) parsed.entry.lines.now parsed.entry.spans))
         (drop parsed.entry.spans.len (take stream.old.held.to stream.old.room.now)) }
     ensures unread { result ≡ Err LinkFault.Read → service.new ≡ service.old }
-    ensures continues { Continues stream.old stream.new }
-    ensures failed { TellsFailures (stream.old.failures < stream.new.failures) (before < W.failure_count w.new) result }
-    ensures turns { result ≡ Err LinkFault.Turns → (stream.new.turns ≡ 0) ⊎ MadeAll W.was_written w.old w.new }
+    ensures reports { ReportsBoth W.failure_count W.was_written before w.old w.new stream.old stream.new result }
 {
     let len = parsed.spans.len;
     let room = &mut *stream.room;

@@ -4,7 +4,7 @@ ghost use Rattle.std.specs.Prelude.{◌≡◌, ◌⊎◌, ◌+◌, ◌<◌, ◌�
 ghost use Rattle.http_link.specs.Grammars.{ends_empty_line};
 ghost use Rattle.http_link.specs.Bodies.{BeginsNothing};
 ghost use Rattle.http_link.specs.BodyReading.{ReadsOnlyFor, TakesText, ends_sought, no_more};
-ghost use Rattle.http_link.specs.StreamCalls.{ReadsNoFurther, Reports, held_of, to_come};
+ghost use Rattle.http_link.specs.StreamCalls.{KeepsBody, ReadsNoFurther, Reports, held_of, to_come};
 
 use crate::devices::Source;
 use crate::head::ends_empty_line;
@@ -72,8 +72,7 @@ pub(crate) fn read_text<R: Source>(
     sought: Sought,
     text: &mut [u8],
 ) -> Result<Text, LinkFault>
-    ensures kept { IfOk result (λ given. take stream.old.done stream.new.room.now ≡ take stream.old.done stream.old.room.now) }
-    ensures done { stream.new.done ≡ stream.old.done }
+    ensures kept { KeepsBody stream.old stream.new result }
     ensures room { length text.new ≡ length text.old }
     ensures taken { IfOk result (TakesText sought (held_of stream.old) (to_come stream.old) (to_come stream.new) (held_of stream.new) text.new) }
     ensures at_once { ReadsOnlyFor stream.old.reader.now stream.new.reader.now result

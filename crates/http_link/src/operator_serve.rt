@@ -7,7 +7,7 @@ ghost use Rattle.common_types.specs.Outcomes.{Gives};
 ghost use Rattle.http_link.specs.Bodies.{most_of};
 ghost use Rattle.http_link.specs.Answers.{line};
 ghost use Rattle.http_link.specs.Counts.{MadeAll};
-ghost use Rattle.http_link.specs.Telling.{TellsFailures, TellsWrites};
+ghost use Rattle.http_link.specs.Telling.{TellsWrites};
 ghost use Rattle.http_link.specs.Heads.{BeginsWith, head_of};
 ghost use Rattle.http_link.specs.Limits.{max_command};
 ghost use Rattle.http_link.specs.Lines.{head_at};
@@ -15,7 +15,7 @@ ghost use Rattle.http_link.specs.OperatorDoor.{AsksOperatorCame, AsksOperatorSou
 ghost use Rattle.http_link.specs.OperatorDoor.{admitted, operator_asking, operator_interim, operator_media, operator_media_line, operator_method, operator_refusal_text};
 ghost use Rattle.http_link.specs.OperatorDoor.{operator_sought_at, operator_sought_of, operator_text, operator_traces_of, operator_wanted_at};
 ghost use Rattle.http_link.specs.Serving.{WritesNothingOr400};
-ghost use Rattle.http_link.specs.StreamCalls.{Continues, to_come};
+ghost use Rattle.http_link.specs.StreamCalls.{ReportsBoth, to_come};
 
 use crate::bodies::{BodyRead, read_body};
 use crate::devices::{Sink, Source};
@@ -144,9 +144,7 @@ fn serve_after_head<R: Source, W: Sink, S: OperatorService>(
     ensures asks { AsksOperatorSought (admitted (S.refusal service.old) (operator_sought_of (head_at head.now))) (to_come stream.old) (to_come stream.new)
         (service.new ≡ service.old) (λ question. S.asks service.old question service.new) }
     ensures unread { result ≡ Err LinkFault.Read → service.new ≡ service.old }
-    ensures continues { Continues stream.old stream.new }
-    ensures failed { TellsFailures (stream.old.failures < stream.new.failures) (before < W.failure_count w.new) result }
-    ensures turns { result ≡ Err LinkFault.Turns → (stream.new.turns ≡ 0) ⊎ MadeAll W.was_written w.old w.new }
+    ensures reports { ReportsBoth W.failure_count W.was_written before w.old w.new stream.old stream.new result }
 {
     match sought_there(service, head) {
         Ok(sought) => {
@@ -179,9 +177,7 @@ fn serve_sought<R: Source, W: Sink, S: OperatorService>(
     ensures asks { AsksOperatorSought (Ok (operator_sought_at request.entry.sought)) (to_come stream.old) (to_come stream.new)
         (service.new ≡ service.old) (λ question. S.asks service.old question service.new) }
     ensures unread { result ≡ Err LinkFault.Read → service.new ≡ service.old }
-    ensures continues { Continues stream.old stream.new }
-    ensures failed { TellsFailures (stream.old.failures < stream.new.failures) (before < W.failure_count w.new) result }
-    ensures turns { result ≡ Err LinkFault.Turns → (stream.new.turns ≡ 0) ⊎ MadeAll W.was_written w.old w.new }
+    ensures reports { ReportsBoth W.failure_count W.was_written before w.old w.new stream.old stream.new result }
 {
     let OperatorAsks { head, sought } = request;
     write_all(w, interim(sought.wanted.request, &head), before)?;

@@ -6,7 +6,7 @@ ghost use Rattle.httparse.specs.Grammar as grammar;
 ghost use Rattle.httparse.specs.Spans.{IsRequestWithin};
 ghost use Rattle.http_link.specs.Connections.{IsCutBehind};
 ghost use Rattle.http_link.specs.Counts.{MadeAll};
-ghost use Rattle.http_link.specs.Telling.{TellsFailures, TellsWrites};
+ghost use Rattle.http_link.specs.Telling.{TellsWrites};
 ghost use Rattle.http_link.specs.Bodies.{IsBody, cut, most_of, body_status};
 ghost use Rattle.http_link.specs.Heads.{BeginsWith, head_of};
 ghost use Rattle.http_link.specs.Lines.{head_at, head_in, wanted_at};
@@ -15,7 +15,7 @@ ghost use Rattle.http_link.specs.Answers.{refusal_text, continue_text, answer_te
 ghost use Rattle.http_link.specs.Serving.{IsServed, IsAskedOnly, AsksAtMostOnce, WritesNothingOr400};
 ghost use Rattle.http_link.specs.Serving.{asking, kept_unless, traces_of};
 ghost use Rattle.http_link.specs.Running.{RunsOnHead, AsksWanted};
-ghost use Rattle.http_link.specs.StreamCalls.{Continues, ReadsNoFurther, held_of, to_come};
+ghost use Rattle.http_link.specs.StreamCalls.{ReadsNoFurther, ReportsBoth, held_of, to_come};
 ghost use Rattle.http_link.specs.Limits.{max_body};
 
 use crate::answer::{put_answer_head, status_told};
@@ -179,9 +179,7 @@ pub(crate) fn serve_head<R: Source, W: Sink, S: Service>(
     ensures at_once { (stream.new.reader.now ≡ stream.old.reader.now)
         ⊎ IsCutBehind (wanted_of (S.tenant_of service.old) (head_in text.now lines.now spans)) (held_of stream.old) }
     ensures exact { ReadsNoFurther stream.old stream.new }
-    ensures continues { Continues stream.old stream.new }
-    ensures failed { TellsFailures (stream.old.failures < stream.new.failures) (before < W.failure_count w.new) result }
-    ensures turns { result ≡ Err LinkFault.Turns → (stream.new.turns ≡ 0) ⊎ MadeAll W.was_written w.old w.new }
+    ensures reports { ReportsBoth W.failure_count W.was_written before w.old w.new stream.old stream.new result }
 {
     let head = head_in(text, lines, spans);
     match wanted_of(service, &head) {
@@ -216,9 +214,7 @@ fn serve_wanted<R: Source, W: Sink, S: Service>(
     ensures at_once { (stream.new.reader.now ≡ stream.old.reader.now)
         ⊎ IsBody request.entry.wanted.framing (held_of stream.old) cut }
     ensures exact { ReadsNoFurther stream.old stream.new }
-    ensures continues { Continues stream.old stream.new }
-    ensures failed { TellsFailures (stream.old.failures < stream.new.failures) (before < W.failure_count w.new) result }
-    ensures turns { result ≡ Err LinkFault.Turns → (stream.new.turns ≡ 0) ⊎ MadeAll W.was_written w.old w.new }
+    ensures reports { ReportsBoth W.failure_count W.was_written before w.old w.new stream.old stream.new result }
 {
     let wanted = request.wanted;
     write_all(w, continue_text(wanted.waits), before)?;

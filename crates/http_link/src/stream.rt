@@ -30,7 +30,7 @@ impl<'r, 'b, R: Source> Stream<'r, 'b, R> {
     ghost use Rattle.std.specs.Prelude.{◌≡◌, ◌⊎◌, ◌<◌, [], take, Some, Err, IfOk};
     ghost use Rattle.http_link.specs.BodyReading.{ReadsOnlyFor, TakesNext, no_more};
     ghost use Rattle.http_link.specs.Limits.{max_turns};
-    ghost use Rattle.http_link.specs.StreamCalls.{ReadsNoFurther, Reports, held_of, to_come};
+    ghost use Rattle.http_link.specs.StreamCalls.{KeepsBody, ReadsNoFurther, Reports, held_of, to_come};
     ghost use Rattle.http_link.specs.Streams.{EndsOrNot, FillsOn, PullsNext, ReadsBehind};
 
     /// A stream of which nothing has come.
@@ -103,8 +103,7 @@ impl<'r, 'b, R: Source> Stream<'r, 'b, R> {
 
     /// Takes the next byte: from those that are held, or else from the reader. Bytes that come with it are held.
     pub(crate) fn next_byte(&mut self) -> Result<Option<u8>, LinkFault>
-        ensures kept { IfOk result (λ given. take self.old.done self.new.room.now ≡ take self.old.done self.old.room.now) }
-        ensures done { self.new.done ≡ self.old.done }
+        ensures kept { KeepsBody self.old self.new result }
         ensures taken { IfOk result (TakesNext (held_of self.old) (to_come self.old) (to_come self.new) (held_of self.new)) }
         ensures at_once { ReadsOnlyFor self.old.reader.now self.new.reader.now result
             (TakesNext (held_of self.old) no_more no_more (held_of self.new)) (held_of self.old ≡ []) }

@@ -11,7 +11,7 @@ returns-clause-taken g c =
     rw c.if-not-branch.false at c.in_ok-read_bytes.ensures.taken in
     rw c.step_after.ensures
     (chunk_taken c.in_ok-read_line_end.field-0 _ _ _ _ (held_of c.read_bytes.new.stream) _ c.args.stream.now.room.now c.read_bytes.new.stream.room.now c.read_line_end.new.stream.room.now c.args.size c.args.stream.now.done (c.read_bytes.new.stream.done + c.args.size) c.read_line_end.new.stream.done
-    (omega arith) (omega arith) one c.in_ok-read_line_end.ensures.kept c.in_ok-read_line_end.ensures.taken)
+    (omega arith) (omega arith) one c.in_ok-read_line_end.ensures.kept.1 c.in_ok-read_line_end.ensures.taken)
 
 pub returns-clause-at_once : goal.returns-clause-at_once
 returns-clause-at_once g c =
@@ -24,5 +24,5 @@ returns-clause-at_once g c =
     rw c.step_after.ensures
     (spares_then c.args.stream.now.reader.now c.read_bytes.new.stream.reader.now c.read_line_end.new.stream.reader.now one c.in_ok-read_line_end.ensures.at_once
     (λ a b. chunk_taken c.in_ok-read_line_end.field-0 had no_more no_more no_more between has c.args.stream.now.room.now c.read_bytes.new.stream.room.now c.read_line_end.new.stream.room.now size c.args.stream.now.done (c.read_bytes.new.stream.done + size) c.read_line_end.new.stream.done
-    (omega arith) (omega arith) a c.in_ok-read_line_end.ensures.kept b)
+    (omega arith) (omega arith) a c.in_ok-read_line_end.ensures.kept.1 b)
     (λ few. omega arith) (λ a few. shorter had a.0 between size 2 a.3 a.1 few))

@@ -12,7 +12,7 @@ pub returns-in-Size-eq0-clause-taken : goal.returns-in-Size-eq0-clause-taken
 returns-in-Size-eq0-clause-taken g c =
     let one : TakesSize (held_of c.args.stream.now) (to_come c.args.stream.now) (to_come c.read_size.new.stream) (held_of c.read_size.new.stream) (Size 0) =
     rw (c.in-Size-eq0.is, c.in-Size-eq0.field-0-test) at c.in_ok-read_size.ensures.taken in
-    last_read c.read_end.result _ _ _ _ one.0 _ _ c.args.most c.args.stream.now.done c.read_size.new.stream.done c.read_end.new.stream.done c.args.stream.now.room.now c.read_size.new.stream.room.now c.read_end.new.stream.room.now one.1 one.2 one.3 c.in_ok-read_size.ensures.kept c.read_size.ensures.done c.read_end.ensures.taken
+    last_read c.read_end.result _ _ _ _ one.0 _ _ c.args.most c.args.stream.now.done c.read_size.new.stream.done c.read_end.new.stream.done c.args.stream.now.room.now c.read_size.new.stream.room.now c.read_end.new.stream.room.now one.1 one.2 one.3 c.in_ok-read_size.ensures.kept.1 c.in_ok-read_size.ensures.kept.0 c.read_end.ensures.taken
 
 pub returns-then-size-most-clause-taken : goal.returns-then-size-most-clause-taken
 returns-then-size-most-clause-taken g c =
@@ -25,7 +25,7 @@ returns-else-size-most-clause-taken g c =
     let one : TakesSize (held_of c.args.stream.now) (to_come c.args.stream.now) (to_come c.read_size.new.stream) (held_of c.read_size.new.stream) (Size c.in-Size.size) =
     rw c.in-Size.is at c.in_ok-read_size.ensures.taken in
     fitting_read c.read_chunk.result _ _ _ _ one.0 _ _ c.in-Size.size c.args.most c.args.stream.now.done c.read_size.new.stream.done c.read_chunk.new.stream.done c.args.stream.now.room.now c.read_size.new.stream.room.now c.read_chunk.new.stream.room.now one.1 one.2 one.3 (omega arith) (omega arith)
-    c.in_ok-read_size.ensures.kept c.requires.fits c.read_size.ensures.done c.read_chunk.ensures.taken
+    c.in_ok-read_size.ensures.kept.1 c.requires.fits c.in_ok-read_size.ensures.kept.0 c.read_chunk.ensures.taken
 
 pub returns-in-Malformed-clause-taken : goal.returns-in-Malformed-clause-taken
 returns-in-Malformed-clause-taken g c =
@@ -47,7 +47,7 @@ returns-in-Size-eq0-clause-at_once g c =
     let one : ((c.read_size.new.stream.reader.now ≡ c.args.stream.now.reader.now) × TakesSize had no_more no_more between (Size 0)) ⊎ BeginsNothing ends_line max_chunk_line had =
     rw (c.in-Size-eq0.is, c.in-Size-eq0.field-0-test) at c.in_ok-read_size.ensures.at_once in
     spares_then c.args.stream.now.reader.now c.read_size.new.stream.reader.now c.read_end.new.stream.reader.now one c.read_end.ensures.at_once
-    (λ a b. last_read c.read_end.result had no_more no_more no_more a.0 between _ c.args.most c.args.stream.now.done c.read_size.new.stream.done c.read_end.new.stream.done c.args.stream.now.room.now c.read_size.new.stream.room.now c.read_end.new.stream.room.now a.1 a.2 a.3 c.in_ok-read_size.ensures.kept c.read_size.ensures.done b)
+    (λ a b. last_read c.read_end.result had no_more no_more no_more a.0 between _ c.args.most c.args.stream.now.done c.read_size.new.stream.done c.read_end.new.stream.done c.args.stream.now.room.now c.read_size.new.stream.room.now c.read_end.new.stream.room.now a.1 a.2 a.3 c.in_ok-read_size.ensures.kept.1 c.in_ok-read_size.ensures.kept.0 b)
     (λ few. inl few) (λ a few. trailers_cut had a.0 between space a.1 a.2 a.3 few)
 
 pub returns-else-size-most-clause-at_once : goal.returns-else-size-most-clause-at_once
@@ -59,7 +59,7 @@ returns-else-size-most-clause-at_once g c =
     rw c.in-Size.is at c.in_ok-read_size.ensures.at_once in
     spares_then c.args.stream.now.reader.now c.read_size.new.stream.reader.now c.read_chunk.new.stream.reader.now one c.read_chunk.ensures.at_once
     (λ a b. fitting_read c.read_chunk.result had no_more no_more no_more a.0 between _ c.in-Size.size c.args.most c.args.stream.now.done c.read_size.new.stream.done c.read_chunk.new.stream.done c.args.stream.now.room.now c.read_size.new.stream.room.now c.read_chunk.new.stream.room.now a.1 a.2 a.3 (omega arith) (omega arith)
-    c.in_ok-read_size.ensures.kept c.requires.fits c.read_size.ensures.done b)
+    c.in_ok-read_size.ensures.kept.1 c.requires.fits c.in_ok-read_size.ensures.kept.0 b)
     (λ few. inl few) (λ a few. chunk_cut had a.0 between c.in-Size.size space a.1 a.2 a.3 (omega arith) (omega arith) few)
 
 pub returns-in-Malformed-clause-at_once : goal.returns-in-Malformed-clause-at_once

@@ -1,8 +1,8 @@
-use Rattle.std.proofs.Common.{◌≡◌, ◌↔◌, ◌<◌, Err, IfOk, ◌⊎◌, ap, subst, refl, arith, rules, inl, inr}
+use Rattle.std.proofs.Common.{◌≡◌, ◌↔◌, ◌<◌, Err, IfOk, ap, subst, refl, arith, rules, inl, inr}
 use Rattle.http_link.specs.Limits.{max_turns}
 use Rattle.http_link.specs.Lines.{head_at}
 use Rattle.http_link.specs.StreamCalls.{to_come}
-use Rattle.http_link.specs.Counts.{MadeAll, MadeMore}
+use Rattle.http_link.specs.Counts.{MadeMore}
 use Rattle.std.specs.Io.KnownBytes.{Appends}
 use Rattle.http_link.specs.Doors.{IsServedAtDoor}
 use Rattle.http_link.specs.Heads.{head_of}

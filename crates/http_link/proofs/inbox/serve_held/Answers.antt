@@ -1,4 +1,4 @@
-use Rattle.std.proofs.Common.{arith, refl, inr}
+use Rattle.std.proofs.Common.{rules, arith, refl, inr}
 use Rattle.http_link.proofs.Connections.{cut_there, found_asks, found_next, none_found, none_there, partial_found}
 use Rattle.std.proofs.KnownBytes.{Appends-nil}
 use Rattle.http_link.proofs.inbox.serve_held.Goals as goal
@@ -19,8 +19,13 @@ pub returns-in-Partial-clause-serves : goal.returns-in-Partial-clause-serves
 returns-in-Partial-clause-serves g c =
     partial_found (g.S.Service.tenant_of c.args.service.now) _ _ _ _ c.find_head.new.lines _ (omega arith) (rw c.in-Partial.is at c.in_ok-find_head.ensures.found) refl (Appends-nil (g.W.Write.contents c.args.w.now))
 
-pub returns-in-Malformed-clause-turns : goal.returns-in-Malformed-clause-turns
-returns-in-Malformed-clause-turns g c told = inr (c.refuse.ensures.told.turns told)
+pub returns-in-Malformed-clause-reports : goal.returns-in-Malformed-clause-reports
+returns-in-Malformed-clause-reports g c = record {
+  continues = search rules;
+  read = search rules;
+  write = search rules;
+  turns = λ fault. inr (c.refuse.ensures.told.turns fault);
+}
 
 pub returns-in_err-find_head-clause-at_once : goal.returns-in_err-find_head-clause-at_once
 returns-in_err-find_head-clause-at_once g c = none_there _ _ (g.S.Service.tenant_of c.args.service.now) _ _ _ (omega arith) c.find_head.ensures.at_once

@@ -19,5 +19,5 @@ returns-clause-at_once g c =
 pub returns-clause-turns : goal.returns-clause-turns
 returns-clause-turns g c told =
     let made : MadeMore g.R.Source.was_read c.args.r.now c.serve_held-result.new.stream.reader.now max_turns ⊎ MadeAll g.W.Sink.was_written c.args.w.now c.serve_held-result.new.w =
-    spent_whole g.R.Source.was_read c.args.r.now c.serve_held-result.new.stream.reader.now max_turns c.serve_held-result.new.stream.turns (search rules) (c.serve_held-result.ensures.turns told) in
+    spent_whole g.R.Source.was_read c.args.r.now c.serve_held-result.new.stream.reader.now max_turns c.serve_held-result.new.stream.turns (search rules) (c.serve_held-result.ensures.reports.turns told) in
     subst (λ r. MadeMore g.R.Source.was_read c.args.r.now r max_turns ⊎ MadeAll g.W.Sink.was_written c.args.w.now c.serve_held-result.new.w) (search rules) made

@@ -27,7 +27,7 @@ loop-n-preserved g c =
     rw c.in-Some.is at c.in_ok-b.ensures.taken in
     let alone : ((c.next_byte.new.self.reader.now ≡ c.loop-n.stream.reader.now) × Takes (held_of c.loop-n.stream) no_more no_more (c.in-Some.b ∷ []) (held_of c.next_byte.new.self)) ⊎ (held_of c.loop-n.stream ≡ []) =
     rw c.in-Some.is at c.in_ok-b.ensures.at_once in
-    let kept = c.in_ok-b.ensures.kept in
+    let kept = c.in_ok-b.ensures.kept.1 in
     let now : ends_sought c.args.sought (take (c.loop-n.n + 1) (slice_set c.loop-n.text c.loop-n.n c.in-Some.b)) ≡ false = search rules in record {
       within = search rules;
       size = search rules;

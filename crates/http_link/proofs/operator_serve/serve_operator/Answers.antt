@@ -68,7 +68,7 @@ pub returns-in-Whole-clause-turns : goal.returns-in-Whole-clause-turns
 returns-in-Whole-clause-turns g c told =
     let made : MadeMore g.R.Source.was_read c.args.r.now c.serve_after_head.new.stream.reader.now max_turns ⊎ MadeAll g.W.Sink.was_written c.args.w.now c.serve_after_head.new.w =
     spent_in_two g.R.Source.was_read c.args.r.now c.find_head.new.stream.reader.now c.serve_after_head.new.stream.reader.now max_turns c.find_head.new.stream.turns c.serve_after_head.new.stream.turns
-    (search rules) (search rules) (c.serve_after_head.ensures.turns told) in
+    (search rules) (search rules) (c.serve_after_head.ensures.reports.turns told) in
     subst (λ r. MadeMore g.R.Source.was_read c.args.r.now r max_turns ⊎ MadeAll g.W.Sink.was_written c.args.w.now c.serve_after_head.new.w) (search rules) made
 
 pub returns-in-Malformed-clause-turns : goal.returns-in-Malformed-clause-turns
@@ -86,7 +86,7 @@ returns-in-Whole-clause-read g c =
     let same : c.find_head.new.stream.failures ≡ count c.args.r.now = search rules in
     subst (λ r. (c.serve_after_head.result ≡ Err Read) ↔ (count c.args.r.now < count r)) (search rules)
     (failed_since (count c.args.r.now) c.find_head.new.stream.failures c.serve_after_head.new.stream.failures (count c.serve_after_head.new.stream.reader.now) same
-    c.serve_after_head.ensures.failed.0 c.serve_after_head.new.stream.unfailed c.serve_after_head.ensures.continues.exact)
+    c.serve_after_head.ensures.reports.read c.serve_after_head.new.stream.unfailed c.serve_after_head.ensures.reports.continues.exact)
 
 pub returns-in_err-find_head-clause-asked_only : goal.returns-in_err-find_head-clause-asked_only
 returns-in_err-find_head-clause-asked_only g c stream head rest e begins = unasked_only (admitted (g.S.OperatorService.refusal c.args.service.now) (operator_sought_of (head_of head))) rest _ _ refl

@@ -1,4 +1,4 @@
-use Rattle.std.proofs.Common.{◌≡◌, [], refl, inr, arith}
+use Rattle.std.proofs.Common.{rules, ◌≡◌, [], refl, inr, arith}
 use Rattle.std.specs.Io.KnownBytes.{Appends}
 use Rattle.http_link.specs.Lines.{head_at}
 use Rattle.http_link.specs.Bodies.{IsBody}
@@ -43,8 +43,18 @@ returns-in-Whole-clause-asks g c =
     whole_asks (operator_sought_at c.args.request.sought) _ _ _ c.read_body.new.stream.room.now c.in-Whole.size
     (c.ask_operator.new.service ≡ c.args.service.now) (λ question. g.S.OperatorService.asks c.args.service.now question c.ask_operator.new.service) read (rw c.front.ensures at c.ask_operator.ensures.asked)
 
-pub returns-in-Whole-clause-turns : goal.returns-in-Whole-clause-turns
-returns-in-Whole-clause-turns g c told = inr (λ n least. c.ask_operator.ensures.told.turns told n (c.write_all.ensures.kept n least))
+pub returns-in-Whole-clause-reports : goal.returns-in-Whole-clause-reports
+returns-in-Whole-clause-reports g c = record {
+  continues = search rules;
+  read = search rules;
+  write = search rules;
+  turns = λ fault. inr (λ n least. c.ask_operator.ensures.told.turns fault n (c.write_all.ensures.kept n least));
+}
 
-pub returns-in-Bad-clause-turns : goal.returns-in-Bad-clause-turns
-returns-in-Bad-clause-turns g c told = inr (λ n least. c.refuse.ensures.told.turns told n (c.write_all.ensures.kept n least))
+pub returns-in-Bad-clause-reports : goal.returns-in-Bad-clause-reports
+returns-in-Bad-clause-reports g c = record {
+  continues = search rules;
+  read = search rules;
+  write = search rules;
+  turns = λ fault. inr (λ n least. c.refuse.ensures.told.turns fault n (c.write_all.ensures.kept n least));
+}

@@ -1,4 +1,4 @@
-use Rattle.std.proofs.Common.{◌≡◌, refl, inr}
+use Rattle.std.proofs.Common.{rules, ◌≡◌, refl, inr}
 use Rattle.std.specs.Io.KnownBytes.{Appends}
 use Rattle.http_link.specs.Answers.{continue_text}
 use Rattle.http_link.specs.Lines.{head_at, wanted_at}
@@ -42,8 +42,18 @@ returns-in-Whole-clause-asks g c =
     whole_asks (wanted_at c.args.request.wanted) _ _ _ _ c.read_body.new.stream.room.now c.in-Whole.size
     (c.answer.new.service ≡ c.args.service.now) (λ question. g.S.Service.asks c.args.service.now question c.answer.new.service) read (rw c.front.ensures at c.answer.ensures.asked)
 
-pub returns-in-Whole-clause-turns : goal.returns-in-Whole-clause-turns
-returns-in-Whole-clause-turns g c told = inr (λ n least. c.answer.ensures.told.turns told n (c.write_all.ensures.kept n least))
+pub returns-in-Whole-clause-reports : goal.returns-in-Whole-clause-reports
+returns-in-Whole-clause-reports g c = record {
+  continues = search rules;
+  read = search rules;
+  write = search rules;
+  turns = λ fault. inr (λ n least. c.answer.ensures.told.turns fault n (c.write_all.ensures.kept n least));
+}
 
-pub returns-in-Bad-clause-turns : goal.returns-in-Bad-clause-turns
-returns-in-Bad-clause-turns g c told = inr (λ n least. c.refuse.ensures.told.turns told n (c.write_all.ensures.kept n least))
+pub returns-in-Bad-clause-reports : goal.returns-in-Bad-clause-reports
+returns-in-Bad-clause-reports g c = record {
+  continues = search rules;
+  read = search rules;
+  write = search rules;
+  turns = λ fault. inr (λ n least. c.refuse.ensures.told.turns fault n (c.write_all.ensures.kept n least));
+}

@@ -1,4 +1,4 @@
-use Rattle.std.proofs.Common.{[], sym, subst, arith}
+use Rattle.std.proofs.Common.{rules, [], sym, subst, arith}
 use Rattle.http_link.specs.BodyReading.{TakesEveryByte}
 use Rattle.http_link.specs.Running.{held_in}
 use Rattle.http_link.specs.StreamCalls.{held_of, to_come}
@@ -10,7 +10,7 @@ pub returns-then-from-to-clause-taken : goal.returns-then-from-to-clause-taken
 returns-then-from-to-clause-taken g c = took_held _ c.args.self.now.room.now c.args.self.now.held c.if-from-to.true c.args.self.now.lies.2
 
 pub returns-then-n-eq0-clause-kept : goal.returns-then-n-eq0-clause-kept
-returns-then-n-eq0-clause-kept g c = let lies = c.args.self.now.lies in front_kept _ _ _ _ _ _ c.in_ok-n.n c.in_ok-n.ensures.came (omega arith)
+returns-then-n-eq0-clause-kept g c = let lies = c.args.self.now.lies in (search rules, front_kept _ _ _ _ _ _ c.in_ok-n.n c.in_ok-n.ensures.came (omega arith))
 
 pub returns-then-n-eq0-clause-taken : goal.returns-then-n-eq0-clause-taken
 returns-then-n-eq0-clause-taken g c =
@@ -19,7 +19,7 @@ returns-then-n-eq0-clause-taken g c =
     (over_now _ _ c.args.self.now.done c.limit.result c.args.self.now.room.now c.fetch.new.self.room.now c.args.self.now.held c.in_ok-n.n (omega arith) (omega arith) c.in_ok-n.ensures.came (omega arith))
 
 pub returns-clause-kept : goal.returns-clause-kept
-returns-clause-kept g c = let lies = c.args.self.now.lies in front_kept _ _ _ _ _ _ c.in_ok-n.n c.in_ok-n.ensures.came (omega arith)
+returns-clause-kept g c = let lies = c.args.self.now.lies in (search rules, front_kept _ _ _ _ _ _ c.in_ok-n.n c.in_ok-n.ensures.came (omega arith))
 
 pub returns-clause-taken : goal.returns-clause-taken
 returns-clause-taken g c =
