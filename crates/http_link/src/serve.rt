@@ -56,7 +56,7 @@ struct Request<'b> {
 /// It takes no more bytes than that request has. To serve a connection on, as the service does, call
 /// [`serve_next`](crate::serve_next): it reads as much at once as there is room for.
 ///
-/// `room` is for bodies, and has 34,000 bytes or more. A request has at most 8,192 bytes and 64 field lines in its
+/// `room` is for heads and bodies, and has 34,000 bytes or more. A request has at most 8,192 bytes and 64 field lines in its
 /// head. No byte after its body is taken from the reader.
 ///
 /// Errors, each of which ends the connection:

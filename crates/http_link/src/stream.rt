@@ -132,17 +132,17 @@ impl<'r, 'b, R: Source> Stream<'r, 'b, R> {
 
     /// Reads until so many bytes are at the front of the room, which has some already, or until the stream has ended.
     /// Returns how many are there.
-    pub(crate) fn read_on(&mut self, had: usize, wanted: usize) -> Result<usize, LinkFault>
+    pub(crate) fn read_on(&mut self, had: usize, needed: usize) -> Result<usize, LinkFault>
         requires there { had ≤ length self.old.room.now }
-        requires within { wanted ≤ length self.old.room.now }
-        ensures filled { IfOk result (FillsOn (to_come self.old) (to_come self.new) (take had self.old.room.now) wanted self.new.room.now) }
-        ensures at_once { wanted ≤ had → self.new.reader.now ≡ self.old.reader.now }
+        requires within { needed ≤ length self.old.room.now }
+        ensures filled { IfOk result (FillsOn (to_come self.old) (to_come self.new) (take had self.old.room.now) needed self.new.room.now) }
+        ensures at_once { needed ≤ had → self.new.reader.now ≡ self.old.reader.now }
         ensures same { (self.new.done ≡ self.old.done) × (self.new.held ≡ self.old.held) }
         ensures reports { Reports self.old self.new result }
     {
         let mut there = had;
-        while there < wanted {
-            let n = self.fetch(there, wanted)?;
+        while there < needed {
+            let n = self.fetch(there, needed)?;
             if n == 0 {
                 return Ok(there);
             }

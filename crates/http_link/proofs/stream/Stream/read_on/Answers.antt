@@ -7,7 +7,7 @@ returns-then-n-eq0-clause-filled g c =
     let read = c.in_ok-n.ensures.came in
     let before = c.loop-there.invariant.came in
     let fits = c.loop-there.invariant.bound in
-    let came = more_came _ _ _ _ _ _ read.2.0 c.args.wanted c.loop-there.there c.in_ok-n.n before read.2.1 read.2.2 read.0 (omega arith) in
+    let came = more_came _ _ _ _ _ _ read.2.0 c.args.needed c.loop-there.there c.in_ok-n.n before read.2.1 read.2.2 read.0 (omega arith) in
     record {
       came = came.0;
       grew = subst (λ m. take m c.fetch.new.self.room.now ≡ take c.args.had c.args.self.now.room.now ++ came.0) (omega arith) came.1;
@@ -22,7 +22,7 @@ loop-there-preserved g c =
     let read = c.in_ok-n.ensures.came in
     let fits = c.loop-there.invariant.bound in
     record {
-      came = more_came _ _ _ _ _ _ read.2.0 c.args.wanted c.loop-there.there c.in_ok-n.n c.loop-there.invariant.came read.2.1 read.2.2 read.0 (omega arith);
+      came = more_came _ _ _ _ _ _ read.2.0 c.args.needed c.loop-there.there c.in_ok-n.n c.loop-there.invariant.came read.2.1 read.2.2 read.0 (omega arith);
       from = omega arith;
       at_once = λ enough. absurd (omega arith);
       bound = omega arith;

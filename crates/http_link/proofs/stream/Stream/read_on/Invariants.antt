@@ -5,9 +5,9 @@ use Rattle.http_link.proofs.stream.Stream.read_on.Given as goal
 
 abbrev pub invariant-loop-there : goal.invariant-loop-there
 invariant-loop-there g l = record {
-  came : CameBehind (to_come l.fn.self) (to_come l.self) (take l.had l.fn.self.room.now) l.wanted l.there l.self.room.now;
+  came : CameBehind (to_come l.fn.self) (to_come l.self) (take l.had l.fn.self.room.now) l.needed l.there l.self.room.now;
   from : l.had ≤ l.there;
-  at_once : l.wanted ≤ l.had → l.self.reader.now ≡ l.fn.self.reader.now;
+  at_once : l.needed ≤ l.had → l.self.reader.now ≡ l.fn.self.reader.now;
   bound : l.there ≤ length l.self.room.now;
   done : l.self.done ≡ l.fn.self.done;
   held : l.self.held ≡ l.fn.self.held;
@@ -16,4 +16,4 @@ invariant-loop-there g l = record {
 }
 
 abbrev pub decreases-loop-there : goal.decreases-loop-there
-decreases-loop-there g l = l.wanted - l.there
+decreases-loop-there g l = l.needed - l.there
