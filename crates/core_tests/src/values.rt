@@ -1,7 +1,8 @@
 //! Single values through public functions: lengths, addresses, targets, packets, configurations, prices, purses, buckets,
-//! routes, counts and logs of lines.
+//! breakers, routes, counts and logs of lines.
 
 mod addresses;
+mod breakers;
 mod buckets;
 mod ildcp;
 mod lengths;

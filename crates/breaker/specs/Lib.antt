@@ -1,0 +1,3 @@
+pub mod Breaker
+pub mod Runs
+pub mod Table
