@@ -27,6 +27,7 @@ use Rattle.service.specs.contracts.office.Office as Office
 use Rattle.service.specs.contracts.office.Terms as Terms
 use Rattle.service.specs.contracts.connection.door.Door as Door
 use Rattle.workers.specs.contracts.places.Places as Places
+use Rattle.service.specs.contracts.breakers.Breakers as Breakers
 use Rattle.workers.specs.contracts.backlog.Backlog as Backlog
 use Rattle.workers.specs.contracts.backlog.Waiting as Waiting
 use Rattle.service.specs.contracts.filing.Filing as Filing
@@ -86,6 +87,9 @@ terms_sync = search (sendable, std.crosses) depth 40
 pub places_sync : IsSync Places.the_field.row
 places_sync = search (sendable, std.crosses) depth 40
 
+pub breakers_sync : IsSync Breakers.the_field.row
+breakers_sync = search (sendable, std.crosses) depth 40
+
 pub door_sync : IsSync Door.the_field.row
 door_sync = search (sendable, std.crosses) depth 40
 
@@ -111,7 +115,7 @@ office_sync J r books meters network journal =
     let filing = filing_sync network in
     let fields = struct_sync (shape (Office.the_type J r)) (
       search (sendable, std.crosses, name_sync) depth 40,
-      (search (sendable, std.crosses, terms_sync) depth 40, (books, (meters, (places_sync, (door_sync, (search (sendable, std.crosses, filing) depth 40, (search (sendable, std.crosses, journal) depth 40, (search (sendable, std.crosses) depth 40, (search (sendable, std.crosses) depth 40, (search (sendable, std.crosses) depth 40, (search (sendable, std.crosses) depth 40, tt))))))))))),
+      (search (sendable, std.crosses, terms_sync) depth 40, (books, (meters, (places_sync, (breakers_sync, (door_sync, (search (sendable, std.crosses, filing) depth 40, (search (sendable, std.crosses, journal) depth 40, (search (sendable, std.crosses) depth 40, (search (sendable, std.crosses) depth 40, (search (sendable, std.crosses) depth 40, (search (sendable, std.crosses) depth 40, tt)))))))))))),
     ) in
     search (recorded_sync, fields) depth 10
 

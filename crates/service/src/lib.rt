@@ -4,6 +4,7 @@
 //!   others.
 //! - `worker`: what one worker does on its thread: it serves connections, carries packets and obeys commands.
 //! - `link`: the way out to the next peers.
+//! - `breakers`: which next peers rest, since they gave no answer.
 //! - `filing`: the statements of closed periods: where they are kept, and which could not be written.
 //! - `host`: the host's door: who waits there, and the answers that the host gets.
 //! - `operators`: the operators' door: what an operator may ask about its tenant, its commands, and the answers.
@@ -12,6 +13,7 @@
 //! - `system`: what all of them run on.
 #![tactic(auto)]
 
+mod breakers;
 mod connection;
 mod filing;
 mod host;

@@ -1,13 +1,16 @@
 //! The way to the next peers.
 
-ghost use Rattle.std.specs.Prelude.{◌≡◌, ◌↔◌, ◌+◌, ◌*◌, ◌≤◌, ◌<◌, ◌^◌, ℕ, length, IfSome, IsSome};
+ghost use Rattle.std.specs.Prelude.{◌≡◌, ◌↔◌, ◌+◌, ◌*◌, ◌≤◌, ◌<◌, ◌^◌, ℕ, length, true, IfSome, IsSome};
 ghost use Rattle.http_link.specs.Limits.{max_peer_answer};
 ghost use Rattle.workers.specs.Replies.{Sending};
-ghost use Rattle.service.specs.Exchanges.{IsEndFor, IsOneExchange, IsTimeFor, exchange_time, sending_of};
+ghost use Rattle.service.specs.Exchanges.{IsEndFor, IsOneExchange, IsTimeFor, exchange_time, is_known_by, outcome_of, sending_of};
 
+use crate::breakers::Breakers;
 use crate::connection::door::Door;
-use crate::connection::timed::Timed;
+use crate::connection::timed::{Timed, millis_of};
 use crate::office::Terms;
+use crate::system::System;
+use breaker::{LEAST_TIME, Outcome, Pass};
 use floor_core::Got;
 use http_link::post;
 use ilp_addr::{Host, Target};
@@ -63,12 +66,17 @@ pub struct Sockets<'a, H> {
 /// a place, connects, reads and writes within the tenant's longest hold, or within the time until the packet expires
 /// if that is less. Once the service stops, the hold counts from the stop on. None of these begins after that time, and the
 /// exchange ends a little later.
+///
+/// A packet to a peer that rests is not sent, and gets no answer at once, as if the peer had given none. A trial may last for a
+/// second at most (`Breaker`). Answers of peers are inputs, whatever they are: so this changes nothing in the rules of the books,
+/// and the isolation of tenants holds as without breakers.
 #[derive(Drop)]
 pub struct PeerLink<'a, H, C, P> {
     handle: &'a H,
     clock: &'a C,
     terms: &'a [Terms],
     places: &'a Places,
+    breakers: &'a Breakers,
     // The service stops once it is closed.
     door: &'a Door,
     peers: P,
@@ -76,12 +84,12 @@ pub struct PeerLink<'a, H, C, P> {
 }
 
 impl<'a, H, C, P> PeerLink<'a, H, C, P> {
-    /// A link for tenants of these terms, by that clock, which has sent so many packets.
+    /// A link for tenants of these terms, by the clock of that system, which has sent so many packets.
     pub fn new(
-        handle: &'a H,
-        clock: &'a C,
+        system: &System<'a, H, C>,
         terms: &'a [Terms],
         places: &'a Places,
+        breakers: &'a Breakers,
         door: &'a Door,
         peers: P,
         sent: u64,
@@ -89,10 +97,11 @@ impl<'a, H, C, P> PeerLink<'a, H, C, P> {
         ensures { result.sent ≡ sent }
     {
         PeerLink {
-            handle,
-            clock,
+            handle: system.handle,
+            clock: system.clock,
             terms,
             places,
+            breakers,
             door,
             peers,
             sent,
@@ -106,6 +115,18 @@ fn exchange_time(hold: u64, expiry: u64, now: u64, stopping: u64) -> u64
 {
     hold.saturating_sub(stopping)
         .min(expiry.saturating_sub(now))
+}
+
+// What is known of a peer after an exchange for which it had so many milliseconds. A miss says nothing if they were few: the sender
+// may have left it no time, or the packet waited for a place.
+fn outcome_of(got: Got, time: u64) -> Outcome
+    ensures { result ≡ outcome_of got time }
+{
+    match got {
+        Got::Filled(_) => Outcome::Answered,
+        Got::Fault if time < LEAST_TIME => Outcome::Unknown,
+        Got::Fault => Outcome::Missed,
+    }
 }
 
 impl<H: Net<Stream = TcpStream> + Clock> Sockets<'_, H> {
@@ -166,17 +187,25 @@ impl<H: Wait + Clock, C: workers::Clock, P: Peers> PeerLink<'_, H, C, P> {
         Some(exchange_time(terms.hold, packet.expiry, now, stopping))
     }
 
-    // Until when an exchange of that packet may last that begins now.
-    fn end_of_exchange(&self, packet: &Outgoing<'_>) -> Option<Instant>
+    // Until when an exchange of that packet with that pass may last that begins now.
+    fn end_of_exchange(&self, packet: &Outgoing<'_>, pass: Pass) -> Option<Instant>
         ensures { IfSome result (λ until. IsEndFor (C.gives self.now.clock.now) self.now.terms.now
-            packet.now.tenant packet.now.expiry until) }
+            packet.now.tenant packet.now.expiry pass until) }
     {
-        let time = self.time_for(packet)?;
+        let time = pass.time_of(self.time_for(packet)?);
         let begun = Instant::now(self.handle).ok()?;
         begun.checked_add(Duration::from_millis(time))
     }
 
-    // Sends a packet in one of the places, once its tenant has one: once at most.
+    // How many milliseconds are left until then; none if the clock can't be read.
+    fn left_until(&self, until: Instant) -> u64 {
+        match Instant::now(self.handle) {
+            Ok(now) => millis_of(until.saturating_duration_since(now)),
+            Err(_) => 0,
+        }
+    }
+
+    // Sends a packet, unless its peer rests: once at most.
     fn exchanged(&mut self, packet: Outgoing<'_>, out: &mut [u8]) -> Got
         requires { max_peer_answer ≤ length out.old }
         ensures len { length out.new ≡ length out.old }
@@ -184,16 +213,42 @@ impl<H: Wait + Clock, C: workers::Clock, P: Peers> PeerLink<'_, H, C, P> {
             (P.exchanges self.old.peers (sending_of packet.entry result out.new) self.new.peers) }
         ensures sent { self.new.sent ≡ self.old.sent }
     {
-        let Some(until) = self.end_of_exchange(&packet) else {
+        let (handle, breakers) = (self.handle, self.breakers);
+        let (tenant, target) = (packet.tenant, packet.target);
+        let Some(pass) = breakers.ask(handle, tenant, target) else {
             return Got::Fault;
+        };
+        let (got, outcome) = self.exchanged_under(pass, packet, out);
+        breakers.learn(handle, tenant, target, pass, outcome);
+        got
+    }
+
+    // Sends a packet with that pass in one of the places, once its tenant has one: once at most. Also gives what is known of the
+    // peer then.
+    fn exchanged_under(
+        &mut self,
+        pass: Pass,
+        packet: Outgoing<'_>,
+        out: &mut [u8],
+    ) -> (Got, Outcome)
+        requires { max_peer_answer ≤ length out.old }
+        ensures len { length out.new ≡ length out.old }
+        ensures once { IsOneExchange result.0 (self.new.peers ≡ self.old.peers)
+            (P.exchanges self.old.peers (sending_of packet.entry result.0 out.new) self.new.peers) }
+        ensures sent { self.new.sent ≡ self.old.sent }
+        ensures known { is_known_by result.0 result.1 ≡ true }
+    {
+        let Some(until) = self.end_of_exchange(&packet, pass) else {
+            return (Got::Fault, Outcome::Unknown);
         };
         let (handle, places) = (self.handle, self.places);
         let Some(place) = places.take(handle, packet.tenant, until) else {
-            return Got::Fault;
+            return (Got::Fault, Outcome::Unknown);
         };
+        let time = self.left_until(until);
         let got = self.exchanged_at(&place, packet, until, out);
         places.give_back(handle, place, got != Got::Fault);
-        got
+        (got, outcome_of(got, time))
     }
 
     // Sends a packet on a connection of its own, in a place of its tenant.

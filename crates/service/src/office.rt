@@ -7,6 +7,7 @@ ghost use Rattle.service.specs.Served.{tenant_named};
 
 pub mod asked;
 
+use crate::breakers::Breakers;
 use crate::connection::door::Door;
 use crate::filing::Filing;
 use crate::host::metrics::LogCounts;
@@ -42,6 +43,8 @@ pub struct Office<J: Run> {
     pub meters: Meters,
     /// The places in which packets are exchanged with next peers.
     pub places: Places,
+    /// Which of these peers rest.
+    pub breakers: Breakers,
     /// Where connections come in.
     pub door: Door,
     /// Where the statements of closed periods are kept, if they are.

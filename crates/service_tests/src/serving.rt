@@ -118,6 +118,7 @@ where
             statements: None,
             roll_at: None,
             admin: true,
+            breakers: true,
         },
         Doors {
             packets: listener,

@@ -12,6 +12,7 @@ ghost use Rattle.journal_shared.specs.Kept.{BeginsLog};
 ghost use Rattle.log_folder.specs.Disk.{disk_may_leave, disk_seen};
 ghost use Rattle.service.specs.Answering.{IsUncounted, IsOfficeOf};
 
+use crate::breakers::Breakers;
 use crate::connection::door::Door;
 use crate::filing::Filing;
 use crate::office::{Office, Terms};
@@ -97,6 +98,7 @@ pub fn open_office<J: Run>(
         statements,
         roll_at,
         admin,
+        breakers,
     } = plan;
     let Start {
         setup,
@@ -113,6 +115,7 @@ pub fn open_office<J: Run>(
         books,
         meters,
         places: places_of(alloc, extent, tenants.len())?,
+        breakers: breakers_of(alloc, begun, breakers, tenants.len())?,
         door: Door::new(begun, total_of(extent)),
         filing: filing_of(alloc, statements, tenants.len())?,
         journal,
@@ -184,6 +187,17 @@ fn places_of(alloc: Global, extent: Extent, tenants: usize) -> Result<Places, Al
 {
     let waiting = most_waiting_of(extent, tenants);
     Places::new(alloc, extent.workers, tenants, waiting)
+}
+
+// The breakers of so many tenants, if peers that give no answer rest.
+fn breakers_of(
+    alloc: Global,
+    begun: Instant,
+    has_breakers: bool,
+    tenants: usize,
+) -> Result<Breakers, AllocError> {
+    let with_breakers = if has_breakers { tenants } else { 0 };
+    Breakers::new(alloc, begun, with_breakers)
 }
 
 // What a service of so many tenants knows of its statements, if it keeps them in that folder.

@@ -30,7 +30,7 @@ pub struct Report {
 
 /// What a service does: how much it serves, and what it prints at the end. It may keep the statements of closed periods in a
 /// folder. It may close a tenant's period by itself, at so many hundredths of its entries, 1 to 100. It may take commands where
-/// packets come, at `/admin/NAME`.
+/// packets come, at `/admin/NAME`. Peers that give no answer may rest for a while.
 #[derive(Clone, Copy)]
 pub struct Plan<'a> {
     pub extent: Extent,
@@ -38,6 +38,7 @@ pub struct Plan<'a> {
     pub statements: Option<&'a str>,
     pub roll_at: Option<u8>,
     pub admin: bool,
+    pub breakers: bool,
 }
 
 impl Plan<'_> {

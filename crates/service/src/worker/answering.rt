@@ -45,10 +45,11 @@ impl<J: Run> Desk<J> {
         ensures same_meters { self.new.seat.meters ≡ self.old.seat.meters }
         ensures told { self.new.told ≡ self.old.told }
     {
-        let (handle, clock) = (system.handle, system.clock);
-        let (terms, places, door) = (office.terms.as_slice(), &office.places, &office.door);
+        let handle = system.handle;
+        let terms = office.terms.as_slice();
+        let (places, breakers, door) = (&office.places, &office.breakers, &office.door);
         let peers = Sockets { handle };
-        let mut link = PeerLink::new(handle, clock, terms, places, door, peers, self.sent);
+        let mut link = PeerLink::new(system, terms, places, breakers, door, peers, self.sent);
         let keeper = office.keeper(handle);
         let tools = Tools {
             rt: system.handle,

@@ -105,6 +105,7 @@ where
         statements: if manner.keeps { Some(KEPT) } else { None },
         roll_at: manner.roll_at,
         admin: manner.admin,
+        breakers: true,
     };
     let doors = Doors {
         packets: at.packets,
