@@ -63,6 +63,8 @@ pub struct CommandLine<'a> {
     pub operators: Option<&'a str>,
     /// Whether commands come where packets come, too.
     pub admin: bool,
+    /// Whether peers that give no answer rest for a while.
+    pub breakers: bool,
     /// The folder where the statements of closed periods are kept.
     pub folder: Option<&'a str>,
     /// The files of the statements to verify.
@@ -90,7 +92,7 @@ const USAGE: &str =
 ilpd verify [--setup SETUP] [--receipts FILE] FILE..\n       ilpd verify --journal DIR\n       \
 ilpd recover DIR [--setup FILE] [--statements DIR]\n       \
 ilpd serve SETUP --workers W [--connections C] [--rounds N] [--balances] [--audit | --journal DIR] [--listen ADDR]\n                  \
-[--host ADDR --host-token FILE] [--operators ADDR [--no-admin]] [--statements DIR] [--roll-at PERCENT]";
+[--host ADDR --host-token FILE] [--operators ADDR [--no-admin]] [--statements DIR] [--roll-at PERCENT] [--no-breaker]";
 
 const WHERE: &str =
     "docs/FORMATS.md describes setups, scripts and what is printed; examples/ has some of each";
@@ -398,13 +400,19 @@ fn put_periods<'a>(alloc: Global, words: &mut Vec<Arg<'a>>) -> Result<(), AllocE
     put(words, roll_at(alloc))
 }
 
+fn no_breaker<'a>(alloc: Global) -> Arg<'a> {
+    let help = "To let each packet wait for its peer, however many in a row it gave no answer";
+    flag_of(alloc, "no-breaker", help)
+}
+
 fn put_serve<'a>(alloc: Global, words: &mut Vec<Arg<'a>>) -> Result<(), AllocError> {
     put_extent(alloc, words)?;
     put_reports(alloc, words)?;
     put(words, listen_of(alloc))?;
     put_host(alloc, words)?;
     put_operators(alloc, words)?;
-    put_periods(alloc, words)
+    put_periods(alloc, words)?;
+    put(words, no_breaker(alloc))
 }
 
 fn serve_of<'a>(alloc: Global) -> Result<Command<'a>, AllocError> {
@@ -415,7 +423,7 @@ fn serve_of<'a>(alloc: Global) -> Result<Command<'a>, AllocError> {
             "Serves packets and commands over HTTP, and prints in the end how many were answered how",
         )
         .override_usage(
-            "ilpd serve SETUP --workers W [--connections C] [--rounds N] [--balances] [--audit | --journal DIR] [--listen ADDR]\n                  [--host ADDR --host-token FILE] [--operators ADDR [--no-admin]] [--statements DIR] [--roll-at PERCENT]",
+            "ilpd serve SETUP --workers W [--connections C] [--rounds N] [--balances] [--audit | --journal DIR] [--listen ADDR]\n                  [--host ADDR --host-token FILE] [--operators ADDR [--no-admin]] [--statements DIR] [--roll-at PERCENT] [--no-breaker]",
         )
         .after_help("Example: ilpd serve examples/serve.toml --workers 4")
         .args(words)
@@ -501,6 +509,7 @@ fn line_of<'a>(
         host: None,
         operators: None,
         admin: true,
+        breakers: true,
         folder: None,
         statements: None,
         first: words.get_str("setup"),
@@ -539,6 +548,7 @@ fn line_in<'a>(matches: &ArgMatches<'a>) -> CommandLine<'a>
                 host: host_of(serve),
                 operators: serve.get_str("operators"),
                 admin: !serve.get_flag("no-admin"),
+                breakers: !serve.get_flag("no-breaker"),
                 folder: serve.get_str("statements"),
                 roll_at: roll_at_of(serve),
                 ..line_of(task, serve, workers_of(serve), address)
@@ -692,7 +702,7 @@ fn checked_line<'a>(alloc: Global, matches: &ArgMatches<'a>) -> Result<CommandLi
 /// `ilpd check SETUP [SCRIPT [--workers W]]`, `ilpd verify [--setup SETUP] [--receipts FILE] FILE..`,
 /// `ilpd verify --journal DIR`, `ilpd recover DIR [--setup FILE] [--statements DIR]` or
 /// `ilpd serve SETUP --workers W [--connections C] [--rounds N] [--balances] [--audit | --journal DIR] [--listen ADDR] [--host ADDR
-/// --host-token FILE] [--operators ADDR [--no-admin]] [--statements DIR] [--roll-at PERCENT]`, the program's name first.
+/// --host-token FILE] [--operators ADDR [--no-admin]] [--statements DIR] [--roll-at PERCENT] [--no-breaker]`, the program's name first.
 ///
 /// W is 1 to 64, and 1 for a script by default. C is 1 to 4,096, and 256 by default. N is 1 to 1,000,000. PERCENT is 1 to 100.
 /// The ADDR to listen on is 127.0.0.1:7768 by default. There is a host's door only if both of its words are there. A service

@@ -83,7 +83,7 @@ fn perform<
                 statements: line.folder,
                 roll_at: line.roll_at,
                 admin: line.admin,
-                breakers: true,
+                breakers: line.breakers,
             };
             serve_at(rt, setup.as_slice(), plan, &line)
         }

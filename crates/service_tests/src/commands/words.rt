@@ -21,7 +21,8 @@ admin = \"root-a\"
 
 // The words after the program's name, and what they ask for: the file of the setup, the number of workers, and the
 // task. For a service come its connections, its rounds, what it reports, the host's address and token file, and the
-// operators' address, and whether commands come at that door only. Or the words, and how the text begins that refuses them.
+// operators' address, whether commands come at that door only, and whether no peer rests. Or the words, and how the text begins
+// that refuses them.
 static LINES: &str = "\
 replay s1.toml -> s1.toml 1 replay
 replay s1.toml --workers 2 -> s1.toml 2 replay
@@ -67,6 +68,8 @@ serve s1.toml --workers 1 --rounds 1000001 -> error: invalid value '1000001' for
 serve s1.toml --workers 1 --roll-at 80 -> s1.toml 1 serve 256 - rolls at 80
 serve s1.toml --workers 1 --roll-at 0 -> error: invalid value '0' for '--roll-at <PERCENT>': 1 to 100
 serve s1.toml --workers 1 --roll-at 101 -> error: invalid value '101' for '--roll-at <PERCENT>': 1 to 100
+serve s1.toml --workers 1 --no-breaker -> s1.toml 1 serve 256 - no breaker
+replay s1.toml --no-breaker -> error:
 serve s1.toml --workers 1 --journal kept -> s1.toml 1 serve 256 -
 serve s1.toml --workers 1 --journal -> error:
 serve s1.toml --workers 1 --journal kept --audit -> error: the argument '--audit' cannot be used with '--journal <DIR>'
@@ -162,8 +165,11 @@ fn operators_told(alloc: Global, operators: Option<&str>) -> Result<String, Fail
     }
 }
 
-fn admin_told(alloc: Global, admin: bool) -> Result<String, Fail> {
-    Ok(String::from_str(alloc, word_where(!admin, " no admin"))?)
+// What the line goes without.
+fn without_told(alloc: Global, line: &CommandLine<'_>) -> Result<String, Fail> {
+    let admin = word_where(!line.admin, " no admin");
+    let breakers = word_where(!line.breakers, " no breaker");
+    Ok([admin, breakers].concat(alloc)?)
 }
 
 fn told(alloc: Global, line: &CommandLine<'_>) -> Result<String, Fail> {
@@ -171,7 +177,7 @@ fn told(alloc: Global, line: &CommandLine<'_>) -> Result<String, Fail> {
     let task = task_told(alloc, line.task)?;
     let host = host_told(alloc, line.host)?;
     let operators = operators_told(alloc, line.operators)?;
-    let admin = admin_told(alloc, line.admin)?;
+    let without = without_told(alloc, line)?;
     let roll_at = roll_at_told(alloc, line.roll_at)?;
     Ok([
         line.setup,
@@ -181,7 +187,7 @@ fn told(alloc: Global, line: &CommandLine<'_>) -> Result<String, Fail> {
         task.as_str(),
         host.as_str(),
         operators.as_str(),
-        admin.as_str(),
+        without.as_str(),
         roll_at.as_str(),
     ]
     .concat(alloc)?)
