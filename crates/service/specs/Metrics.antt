@@ -17,9 +17,10 @@ use Rattle.books_shared.specs.declared.outcomes.PacketOutcome.TheVariants.{Fulfi
 use Rattle.meters.specs.declared.kind.Kind.{Kind}
 use Rattle.meters.specs.declared.kind.Kind.TheVariants as kind
 use Rattle.workers.specs.declared.places.PlaceUse.{PlaceUse}
+use Rattle.service.specs.declared.breakers.BreakerUse.{BreakerUse}
 use Rattle.service.specs.declared.host.metrics.BookFigures.{BookFigures}
 use Rattle.service.specs.declared.host.metrics.Family.{Family}
-use Rattle.service.specs.declared.host.metrics.Family.TheVariants.{Accepts, Open, Waiting, LogLeft, LogWrite, LogSynced, Answers, Packets, Unanswered, LinkFaults, RefusedTokens, PlacesShare, PlacesUsed, PlacesAwaited, Period, Entries, JournalPlaces, OpenHolds, StatementsWaiting}
+use Rattle.service.specs.declared.host.metrics.Family.TheVariants.{Accepts, Open, Waiting, LogLeft, LogWrite, LogSynced, Answers, Packets, Unanswered, PeersResting, PacketsSkipped, LinkFaults, RefusedTokens, PlacesShare, PlacesUsed, PlacesAwaited, Period, Entries, JournalPlaces, OpenHolds, StatementsWaiting}
 use Rattle.service.specs.declared.host.metrics.LogCounts.{LogCounts}
 use Rattle.service.specs.declared.host.metrics.PacketFigures.{PacketFigures}
 use Rattle.service.specs.declared.host.metrics.ServiceCounts.{ServiceCounts}
@@ -38,6 +39,8 @@ family_name LogSynced = codes "ilpd_log_synced_milliseconds"
 family_name Answers = codes "ilpd_answers_total"
 family_name Packets = codes "ilpd_packets_total"
 family_name Unanswered = codes "ilpd_unanswered_total"
+family_name PeersResting = codes "ilpd_peers_resting"
+family_name PacketsSkipped = codes "ilpd_packets_skipped_total"
 family_name LinkFaults = codes "ilpd_link_faults_total"
 family_name RefusedTokens = codes "ilpd_operator_tokens_refused_total"
 family_name PlacesShare = codes "ilpd_places_share"
@@ -60,6 +63,8 @@ help_of LogSynced = codes "How many milliseconds ago the log was synced last."
 help_of Answers = codes "Packets and commands that were answered, by the status of the answer."
 help_of Packets = codes "Packets that the tenant decided, by what became of them."
 help_of Unanswered = codes "Packets that went on and got no usable answer, by the cause."
+help_of PeersResting = codes "Peers that rest: five packets in a row got no answer."
+help_of PacketsSkipped = codes "Packets that were not sent on, since the peer rested."
 help_of LinkFaults = codes "Packets that no peer answered with status 200, or for which no place was free in time. A bad answer is not counted."
 help_of RefusedTokens = codes "Commands and questions under a token that is not the operator's."
 help_of PlacesShare = codes "Places of which the tenant is sure."
@@ -76,6 +81,7 @@ abbrev pub type_of : Family → List ℕ
 type_of Answers = codes "counter"
 type_of Packets = codes "counter"
 type_of Unanswered = codes "counter"
+type_of PacketsSkipped = codes "counter"
 type_of LinkFaults = codes "counter"
 type_of RefusedTokens = codes "counter"
 type_of _ = codes "gauge"
@@ -127,6 +133,8 @@ outcome_word (Refused code) = code_of code
 
 -- the number of a tenant that a family has
 abbrev pub figure_of : Family → TenantCounts → ℕ
+figure_of PeersResting counts = counts.breakers.resting
+figure_of PacketsSkipped counts = counts.breakers.skipped
 figure_of LinkFaults counts = counts.link_faults
 figure_of RefusedTokens counts = counts.refused_tokens
 figure_of PlacesShare counts = counts.places.share
@@ -203,7 +211,7 @@ log_text (Some log) = single_text LogLeft log.left ++ single_text LogWrite log.w
 -- the metrics of the tenants, by family
 unfoldable pub tenants_text : List TenantCounts → List ℕ
 tenants_text all =
-    details_text Answers all ++ details_text Packets all ++ details_text Unanswered all ++ each_text LinkFaults all ++ each_text RefusedTokens all
+    details_text Answers all ++ details_text Packets all ++ details_text Unanswered all ++ each_text PeersResting all ++ each_text PacketsSkipped all ++ each_text LinkFaults all ++ each_text RefusedTokens all
     ++ each_text PlacesShare all ++ each_text PlacesUsed all ++ each_text PlacesAwaited all ++ each_text Period all ++ each_text Entries all ++ each_text JournalPlaces all ++ each_text OpenHolds all
 
 -- the metrics of the statements of closed periods, if some are kept
@@ -240,9 +248,9 @@ pub record ArePacketsOf (openings : List Opening) (tenant : ℕ) (figures : Pack
   pub full : figures.full_journals ≡ locked.full
   pub bad : figures.bad_answers ≡ locked.bad
 
--- these counts of a tenant are what was read: so often each kind, so many refused tokens, these places, what became of these
--- packets, this book, and so many statements that wait
-pub record AreRead (Answered : Kind → ℕ → Type 0) (Tokens : ℕ → Type 0) (Places : PlaceUse → Type 0) (Packets : PacketFigures → Type 0)
+-- these counts of a tenant are what was read: so often each kind, so many refused tokens, these places and breakers, what became
+-- of these packets, this book, and so many statements that wait
+pub record AreRead (Answered : Kind → ℕ → Type 0) (Tokens : ℕ → Type 0) (Places : PlaceUse → Type 0) (Breakers : BreakerUse → Type 0) (Packets : PacketFigures → Type 0)
     (Book : BookFigures → Type 0) (Statements : ℕ → Type 0)
     (counts : TenantCounts) : Type 0 where
   pub answered : Answered kind.Answered counts.answered
@@ -251,6 +259,7 @@ pub record AreRead (Answered : Kind → ℕ → Type 0) (Tokens : ℕ → Type 0
   pub link_faults : Answered kind.LinkFault counts.link_faults
   pub refused_tokens : Tokens counts.refused_tokens
   pub places : Places counts.places
+  pub breakers : Breakers counts.breakers
   pub packets : Packets counts.packets
   pub book : Book counts.book
   pub statements : Statements counts.statements

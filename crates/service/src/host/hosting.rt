@@ -5,6 +5,7 @@ ghost use Rattle.service.specs.Hosting.{HasTold, IsToldOf};
 ghost use Rattle.service.specs.Metrics.{ArePacketsOf, IsBookOf, IsMetricsOf};
 ghost use Rattle.service.specs.Presence.{IsPresentText};
 
+use crate::breakers::BreakerUse;
 use crate::connection::door::{Deserted, Door};
 use crate::connection::timed::Timed;
 use crate::host::asking::{Hosted, Untold, told_to_host};
@@ -79,6 +80,11 @@ const NO_PLACES: PlaceUse = PlaceUse {
     unanswered: 0,
 };
 
+const NO_BREAKERS: BreakerUse = BreakerUse {
+    resting: 0,
+    skipped: 0,
+};
+
 /// Who answers at the host's door: one request of each connection.
 #[derive(Drop)]
 pub struct Host<'a, H, J: Run> {
@@ -143,12 +149,14 @@ impl<H: Wait, J: Run> Gauges for Gauged<'_, H, J> {
 
     ghost meters = { λ s. s.office.now.meters.id };
 
-    // Of what the meters, the counters of tokens, the places and the backlog tell nothing more is known.
+    // Of what the meters, the counters of tokens, the places, the breakers and the backlog tell nothing more is known.
     ghost tells = { λ _ _ _ _. Unit {0} };
 
     ghost tells_tokens = { λ _ _ _. Unit {0} };
 
     ghost tells_places = { λ _ _ _. Unit {0} };
+
+    ghost tells_breakers = { λ _ _ _. Unit {0} };
 
     ghost tells_packets = { λ _ tenant figures. ArePacketsOf J.openings tenant figures };
 
@@ -170,6 +178,11 @@ impl<H: Wait, J: Run> Gauges for Gauged<'_, H, J> {
             // Each tenant has its places, which the lock's type can't say.
             None => NO_PLACES,
         }
+    }
+
+    fn breakers(&self, tenant: usize) -> BreakerUse {
+        let used = self.office.breakers.use_by(self.handle, tenant);
+        used.unwrap_or(NO_BREAKERS)
     }
 
     fn packets(&self, tenant: usize) -> PacketFigures {

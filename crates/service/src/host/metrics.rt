@@ -9,6 +9,7 @@ ghost use Rattle.service.specs.Metrics.{AreRead, all_outcomes, answers_of, bit, 
 ghost use Rattle.service.specs.Metrics.{family_head, family_line, family_name, figure_of, figures_of, help_of, label_of, log_text, metrics_text, number_text};
 ghost use Rattle.service.specs.Metrics.{outcome_word, outcomes_text, packets_of, service_text, single_text, statements_text, tenants_text, type_of, unanswered_of};
 
+use crate::breakers::BreakerUse;
 use books_shared::{PacketCounts, PacketOutcome};
 use common_types::Name;
 use meters::{Kind, MeterSeat};
@@ -51,6 +52,7 @@ pub struct TenantCounts<'a> {
     /// How many commands and questions came under a token that is not the operator's.
     pub refused_tokens: u64,
     pub places: PlaceUse,
+    pub breakers: BreakerUse,
     pub packets: PacketFigures,
     pub book: BookFigures,
     /// How many closed periods wait for their statements to be written.
@@ -85,6 +87,7 @@ pub struct ServiceCounts {
 /// The source of the present numbers of tenants.
 pub trait Gauges {
     ghost use Rattle.workers.specs.declared.places.PlaceUse.{PlaceUse};
+    ghost use Rattle.service.specs.declared.breakers.BreakerUse.{BreakerUse};
     ghost use Rattle.service.specs.declared.host.metrics.BookFigures.{BookFigures};
     ghost use Rattle.service.specs.declared.host.metrics.PacketFigures.{PacketFigures};
 
@@ -93,13 +96,15 @@ pub trait Gauges {
 
     ghost meters: { Self → TableId };
 
-    /// That it told that number: of a tenant and a kind, of its refused tokens, of its places, of its packets, of its book,
-    /// and of its statements that wait.
+    /// That it told that number: of a tenant and a kind, of its refused tokens, of its places, of its breakers, of its packets, of
+    /// its book, and of its statements that wait.
     ghost tells: { Self → ℕ → meter.Kind → ℕ → Type 0 };
 
     ghost tells_tokens: { Self → ℕ → ℕ → Type 0 };
 
     ghost tells_places: { Self → ℕ → PlaceUse → Type 0 };
+
+    ghost tells_breakers: { Self → ℕ → BreakerUse → Type 0 };
 
     ghost tells_packets: { Self → ℕ → PacketFigures → Type 0 };
 
@@ -121,6 +126,10 @@ pub trait Gauges {
     /// The places of a tenant: its share, those in use, and the packets that wait.
     fn places(&self, tenant: usize) -> PlaceUse
         ensures { tells_places self.now tenant result };
+
+    /// The breakers of a tenant's peers: how many rest, and the packets that were not sent.
+    fn breakers(&self, tenant: usize) -> BreakerUse
+        ensures { tells_breakers self.now tenant result };
 
     /// What became of a tenant's packets.
     fn packets(&self, tenant: usize) -> PacketFigures
@@ -161,7 +170,7 @@ pub fn counts_of<'a, G: Gauges>(
     ensures same { seat.new ≡ seat.old }
     ensures name { result.name.now ≡ name.now }
     ensures read { AreRead (G.tells gauges.now tenant) (G.tells_tokens gauges.now tenant) (G.tells_places gauges.now tenant)
-        (G.tells_packets gauges.now tenant) (G.tells_book gauges.now tenant) (G.tells_statements gauges.now tenant) result }
+        (G.tells_breakers gauges.now tenant) (G.tells_packets gauges.now tenant) (G.tells_book gauges.now tenant) (G.tells_statements gauges.now tenant) result }
 {
     TenantCounts {
         name,
@@ -171,6 +180,7 @@ pub fn counts_of<'a, G: Gauges>(
         link_faults: gauges.counted(seat, tenant, Kind::LinkFault),
         refused_tokens: gauges.refused_tokens(tenant),
         places: gauges.places(tenant),
+        breakers: gauges.breakers(tenant),
         packets: gauges.packets(tenant),
         book: gauges.book(tenant),
         statements: gauges.statements(tenant),
@@ -191,7 +201,7 @@ pub fn all_counts<'a, G: Gauges>(
     ensures read { IfOk result (λ all. (tenant : ℕ) (counts : told.TenantCounts) → slice_get all.items tenant ≡ Some counts
         → (slice_get names.now tenant ≡ Some counts.name.now)
         × AreRead (G.tells gauges.now tenant) (G.tells_tokens gauges.now tenant) (G.tells_places gauges.now tenant)
-        (G.tells_packets gauges.now tenant) (G.tells_book gauges.now tenant) (G.tells_statements gauges.now tenant) counts) }
+        (G.tells_breakers gauges.now tenant) (G.tells_packets gauges.now tenant) (G.tells_book gauges.now tenant) (G.tells_statements gauges.now tenant) counts) }
 {
     let mut all = Vec::with_capacity(alloc, names.len())?;
     for tenant in 0..names.len() {
@@ -218,6 +228,8 @@ enum Family {
     /// Of each tenant, three by the cause.
     Unanswered,
     /// Of each tenant, one.
+    PeersResting,
+    PacketsSkipped,
     LinkFaults,
     RefusedTokens,
     PlacesShare,
@@ -244,6 +256,8 @@ impl Family {
             Family::Answers => b"ilpd_answers_total",
             Family::Packets => b"ilpd_packets_total",
             Family::Unanswered => b"ilpd_unanswered_total",
+            Family::PeersResting => b"ilpd_peers_resting",
+            Family::PacketsSkipped => b"ilpd_packets_skipped_total",
             Family::LinkFaults => b"ilpd_link_faults_total",
             Family::RefusedTokens => b"ilpd_operator_tokens_refused_total",
             Family::PlacesShare => b"ilpd_places_share",
@@ -272,6 +286,8 @@ impl Family {
                 b"Packets and commands that were answered, by the status of the answer.",
             Family::Packets => b"Packets that the tenant decided, by what became of them.",
             Family::Unanswered => b"Packets that went on and got no usable answer, by the cause.",
+            Family::PeersResting => b"Peers that rest: five packets in a row got no answer.",
+            Family::PacketsSkipped => b"Packets that were not sent on, since the peer rested.",
             Family::LinkFaults =>
                 b"Packets that no peer answered with status 200, or for which no place was free in time. A bad answer is not counted.",
             Family::RefusedTokens =>
@@ -309,6 +325,7 @@ impl Family {
             Family::Answers
             | Family::Packets
             | Family::Unanswered
+            | Family::PacketsSkipped
             | Family::LinkFaults
             | Family::RefusedTokens => b"counter",
             _ => b"gauge",
@@ -322,6 +339,8 @@ impl TenantCounts<'_> {
         ensures { result ≡ figure_of family self.now }
     {
         match family {
+            Family::PeersResting => self.breakers.resting,
+            Family::PacketsSkipped => self.breakers.skipped,
             Family::LinkFaults => self.link_faults,
             Family::RefusedTokens => self.refused_tokens,
             Family::PlacesShare => self.places.share as u64,
@@ -637,6 +656,8 @@ fn put_tenants(
     put_all_details(alloc, text, Family::Answers, all)?;
     put_all_details(alloc, text, Family::Packets, all)?;
     put_all_details(alloc, text, Family::Unanswered, all)?;
+    put_each(alloc, text, Family::PeersResting, all)?;
+    put_each(alloc, text, Family::PacketsSkipped, all)?;
     put_each(alloc, text, Family::LinkFaults, all)?;
     put_each(alloc, text, Family::RefusedTokens, all)?;
     put_each(alloc, text, Family::PlacesShare, all)?;

@@ -287,6 +287,9 @@ ilpd_packets_total{tenant=\"beta\",outcome=\"configured\"} 0
 ilpd_unanswered_total{tenant=\"acme\",cause=\"no_place\"} 0
 ilpd_unanswered_total{tenant=\"acme\",cause=\"no_answer\"} 0
 ilpd_unanswered_total{tenant=\"acme\",cause=\"bad_answer\"} 0
+ilpd_peers_resting{tenant=\"acme\"} 0
+ilpd_packets_skipped_total{tenant=\"acme\"} 0
+ilpd_packets_skipped_total{tenant=\"beta\"} 0
 ilpd_link_faults_total{tenant=\"acme\"} 0
 ilpd_operator_tokens_refused_total{tenant=\"acme\"} 0
 ilpd_operator_tokens_refused_total{tenant=\"beta\"} 1
@@ -310,7 +313,7 @@ pub fn has_line(text: &str, wanted: &str) -> bool {
     false
 }
 
-fn expect_metrics(rt: &impl Abort, metrics: &[u8], wanted: &str) -> Result<(), Fail> {
+pub fn expect_metrics(rt: &impl Abort, metrics: &[u8], wanted: &str) -> Result<(), Fail> {
     let text = str::from_utf8(metrics)?;
     assert!(rt; text.starts_with(METRICS_HEAD));
     for line in wanted.lines() {

@@ -11,7 +11,7 @@ loop-tenant-preserved g c =
     let named : slice_get c.args.names.now c.loop-tenant.tenant ≡ Some c.index-names-tenant.result = search (rules, slice_get_read) in
     let Read : ℕ → TenantCounts → Type 0 = λ tenant counts. (slice_get c.args.names.now tenant ≡ Some counts.name.now)
     × AreRead (g.G.Gauges.tells c.args.gauges.now tenant) (g.G.Gauges.tells_tokens c.args.gauges.now tenant)
-    (g.G.Gauges.tells_places c.args.gauges.now tenant) (g.G.Gauges.tells_packets c.args.gauges.now tenant) (g.G.Gauges.tells_book c.args.gauges.now tenant)
+    (g.G.Gauges.tells_places c.args.gauges.now tenant) (g.G.Gauges.tells_breakers c.args.gauges.now tenant) (g.G.Gauges.tells_packets c.args.gauges.now tenant) (g.G.Gauges.tells_book c.args.gauges.now tenant)
     (g.G.Gauges.tells_statements c.args.gauges.now tenant) counts in
     let here : Read c.loop-tenant.tenant c.counts_of.result = (search (rules, named), c.counts_of.ensures.read) in
     record {

@@ -12,6 +12,6 @@ invariant-loop-tenant g l = record {
   read : (tenant : ℕ) (counts : TenantCounts) → slice_get l.all.items tenant ≡ Some counts
       → (slice_get l.names tenant ≡ Some counts.name.now)
       × AreRead (g.G.Gauges.tells l.gauges tenant) (g.G.Gauges.tells_tokens l.gauges tenant)
-      (g.G.Gauges.tells_places l.gauges tenant) (g.G.Gauges.tells_packets l.gauges tenant) (g.G.Gauges.tells_book l.gauges tenant)
+      (g.G.Gauges.tells_places l.gauges tenant) (g.G.Gauges.tells_breakers l.gauges tenant) (g.G.Gauges.tells_packets l.gauges tenant) (g.G.Gauges.tells_book l.gauges tenant)
       (g.G.Gauges.tells_statements l.gauges tenant) counts;
 }
