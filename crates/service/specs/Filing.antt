@@ -100,7 +100,7 @@ statement_file name period = name ++ codes "." ++ decimal period ++ codes ".stat
 abbrev pub path_in : (folder file : List ℕ) → List ℕ
 path_in folder file = folder ++ codes "/" ++ file
 
--- that was told of the file of the statement of that period of that tenant, in the folder of the service's statements
+-- the file system gave these bytes of the file of that tenant's statement of that period, in the folder of the service's statements
 pub record IsStatementRead {J : Type 0} {r : Ghosts J} (Reads : (path bytes : List ℕ) → Type 0) (office : Office J r) (tenant period : ℕ) (text : List ℕ)
     : Type 0 where
   pub filing : Filing
